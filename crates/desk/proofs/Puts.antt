@@ -35,7 +35,7 @@ find-set [] k f q within same first = absurd (omega arith)
 find-set (x ∷ xs) zero f q within same first = rw (is_eq-slice_cmp q (string_bytes f.name), is_eq-slice_cmp q (string_bytes x.name), same) (cond_twice (bytes_eq q (string_bytes f.name)) _ _ _)
 find-set (x ∷ xs) (suc k) f q within same first =
     rw (is_eq-slice_cmp q (string_bytes x.name), find-set xs k f q (omega arith) same (λ j h. first (suc j) (omega arith)))
-        (cond_swap (bytes_eq q (string_bytes x.name)) (bytes_eq q (string_bytes f.name)) _ _ _ (apart_names q (string_bytes x.name) (string_bytes f.name) (first 0 (omega arith))))
+    (cond_swap (bytes_eq q (string_bytes x.name)) (bytes_eq q (string_bytes f.name)) _ _ _ (apart_names q (string_bytes x.name) (string_bytes f.name) (first 0 (omega arith))))
 
 same_files : (m n : Files) → ((q : List ℕ) → get m q ≡ get n q) → m ≡ n
 same_files = same_map nat_list_cmp_total (slice_cmp-IsAntisymmetric nat_cmp-IsAntisymmetric)
@@ -54,9 +54,9 @@ files_of-set fs k old new name found is same =
     let named_place : name ≡ string_bytes (get_or fs k new).name = (bytes_eq-Decides name (string_bytes (get_or fs k new).name)).0 at_new.1 in
     let named_new : string_bytes new.name ≡ name = same ∙ sym named_old in
     same_files _ _ (λ q.
-        get-from_entries nat_list_cmp_total (map file_entry (set fs k new)) q
-        ∙ find-set fs k new q at_new.0 (sym named_place ∙ sym named_new) (rw (← named_new) at at_new.2)
-        ∙ rw named_new (sym (get_insert-bytes_eq (files_of fs) name new.bytes.items q ∙ ap (cond (bytes_eq q name) (Some new.bytes.items)) (get-from_entries nat_list_cmp_total (map file_entry fs) q))))
+    get-from_entries nat_list_cmp_total (map file_entry (set fs k new)) q
+    ∙ find-set fs k new q at_new.0 (sym named_place ∙ sym named_new) (rw (← named_new) at at_new.2)
+    ∙ rw named_new (sym (get_insert-bytes_eq (files_of fs) name new.bytes.items q ∙ ap (cond (bytes_eq q name) (Some new.bytes.items)) (get-from_entries nat_list_cmp_total (map file_entry fs) q))))
 
 -- No file of the name stands among these.
 find_none : (fs : List StoredFile) (name : List ℕ) → ((k : ℕ) (d : StoredFile) → k < length fs → bytes_eq name (string_bytes (get_or fs k d).name) ≡ false) → find (slice_cmp nat_cmp) name (map file_entry fs) ≡ None
