@@ -1,10 +1,12 @@
 // Lines and fields of a text.
-ghost use Rattle.std.specs.Prelude.{◌≡◌, ◌<◌, ◌∷◌, length, map, OnOk, position};
+ghost use Rattle.std.specs.Prelude.{◌≡◌, ℕ, List, ◌<◌, ◌∷◌, length, map, OnOk, not, position};
+ghost use Rattle.std.specs.List.{list_any};
 ghost use Rattle.std.specs.Iterator.{YieldsFirstRef, item_count};
 ghost use Rattle.num_text.specs.Lines as lines;
 ghost use Rattle.num_text.specs.Words as words;
 
 use std::alloc::AllocError;
+use std::marker;
 
 /// Whether a byte parts fields: space, tab or carriage return.
 pub fn is_blank(byte: u8) -> bool
@@ -36,9 +38,11 @@ fn split_line(bytes: &[u8]) -> (&[u8], &[u8])
     }
 }
 
-/// Replaces the content of `fields` by the fields of a line, its longest runs of bytes that aren't
-/// blank.
-pub fn read_fields<'a>(line: &'a [u8], fields: &mut Vec<&'a [u8]>) -> Result<(), AllocError> {
+/// Replaces the content of `fields` by the fields of a line: its longest runs of bytes that aren't
+/// blank. On an error `fields` has the first ones of them.
+pub fn read_fields<'a>(line: &'a [u8], fields: &mut Vec<&'a [u8]>) -> Result<(), AllocError>
+    ensures { OnOk result (map (λ f. f.now) fields.new.items ≡ lines.fields_of line.now) }
+{
     fields.clear();
     for piece in line.split(|b| is_blank(*b)) {
         if !piece.is_empty() {
@@ -48,23 +52,48 @@ pub fn read_fields<'a>(line: &'a [u8], fields: &mut Vec<&'a [u8]>) -> Result<(),
     Ok(())
 }
 
+// Whether a byte of the line isn't blank.
+fn has_text(line: &[u8]) -> bool
+    ensures { result ≡ list_any (λ b. not (lines.is_blank b)) line.now }
+{
+    line.iter().any(|b| !is_blank(*b))
+}
+
+/// Whether a line has a field.
+pub fn has_fields(line: &[u8]) -> bool
+    ensures { result ≡ lines.is_nonempty (lines.fields_of line.now) }
+{
+    has_text(line)
+}
+
 /// Whether a line is read: it has a field and doesn't begin with `*`.
-pub fn is_read(line: &[u8]) -> bool {
+pub fn is_read(line: &[u8]) -> bool
+    ensures { result ≡ words.is_read line.now }
+{
     match line {
-        [] | [b'*', ..] => false,
-        _ => line.iter().any(|b| !is_blank(*b)),
+        [] => false,
+        [b'*', ..] => false,
+        [_, ..] => has_fields(line),
     }
 }
 
 /// The lines of a text, each without its line feed. Bytes behind the last line feed are a line
-/// where there are any.
-#[derive(Clone, Copy)]
+/// where there are any. A contract sees the lines that are still to come.
+#[derive(Drop)]
 pub struct Lines<'a> {
     rest: &'a [u8],
 }
 
+impl<'a> marker::Model for Lines<'a> {
+    ghost Value = { List (List ℕ) };
+
+    ghost view = { λ s. lines.lines_of s.rest.now };
+}
+
 impl<'a> Lines<'a> {
-    pub fn new(bytes: &'a [u8]) -> Lines<'a> {
+    pub fn new(bytes: &'a [u8]) -> Lines<'a>
+        ensures { result ≡ lines.lines_of bytes.now }
+    {
         Lines { rest: bytes }
     }
 }
@@ -72,9 +101,9 @@ impl<'a> Lines<'a> {
 impl<'a> Iterator for Lines<'a> {
     type Item = &'a [u8];
 
-    ghost next_gives = { YieldsFirstRef (λ s. lines.lines_of s.rest.now) };
+    ghost next_gives = { YieldsFirstRef (λ s. s) };
 
-    ghost remaining = { item_count (λ s. lines.lines_of s.rest.now) };
+    ghost remaining = { item_count (λ s. s) };
 
     fn next(&mut self) -> Option<&'a [u8]> {
         if self.rest.is_empty() {
