@@ -1,2 +1,6 @@
 pub mod LineLaws
 pub mod FieldLaws
+pub mod NumberExamples
+pub mod NumberLaws
+pub mod CutLaws
+pub mod PartLaws

@@ -1,5 +1,5 @@
 -- Decimal number texts.
-use Rattle.std.specs.Prelude.{ℕ, zero, suc, ◌+◌, ◌-◌, ◌*◌, ◌^◌, ◌/◌, ◌%◌, ℤ, pos, negsuc, neg_ℤ, ◌-ℤ◌, Bool, false, ◌&&◌, ◌||◌, nat_eq, nat_lt, if◌then◌else◌, List, [], ◌∷◌, ◌++◌, length, fold, Option, Some, None, Result, Ok, Err}
+use Rattle.std.specs.Prelude.{ℕ, zero, suc, ◌+◌, ◌-◌, ◌*◌, ◌^◌, ◌/◌, ◌%◌, ℤ, pos, negsuc, neg_ℤ, ◌-ℤ◌, Bool, false, not, ◌&&◌, ◌||◌, nat_eq, nat_lt, if◌then◌else◌, List, [], ◌∷◌, ◌++◌, length, fold, Option, Some, None, Result, Ok, Err}
 use Rattle.std.specs.List.{list_all, before_first, after_first, list_any}
 use Rattle.std.specs.Char.{is_ascii_digit}
 use Rattle.std.specs.Fmt.{signed_decimal}
@@ -13,9 +13,12 @@ pub record Decimal : Type 0 where
   pub digits : ℕ
   pub shift : ℤ
 
--- the number that a run of digits spells
+-- the number that a run of digits spells behind those that spell n
+abbrev pub digits_after : ℕ → List ℕ → ℕ
+digits_after n text = fold (λ n b. 10 * n + (b - 48)) n text
+
 abbrev pub digits_number : List ℕ → ℕ
-digits_number text = fold (λ n b. 10 * n + (b - 48)) 0 text
+digits_number text = digits_after 0 text
 
 -- whether a text begins with a minus, and the text behind its sign
 abbrev pub begins_with_minus : List ℕ → Bool
@@ -39,12 +42,14 @@ is_exponent_mark b = nat_eq b 101 || nat_eq b 69
 abbrev pub is_digits : List ℕ → Bool
 is_digits text = is_nonempty text && list_all is_ascii_digit text
 
--- what an exponent adds: none, or an optional sign and digits
-abbrev pub exponent_of : List ℕ → Option ℤ
-exponent_of text = if is_digits (behind_sign text) then Some (with_sign (begins_with_minus text) (digits_number (behind_sign text))) else None
+-- what stands behind the exponent's mark, where there is one
+abbrev pub exponent_text : List ℕ → Option (List ℕ)
+exponent_text text = if list_any is_exponent_mark text then Some (after_first is_exponent_mark text) else None
 
-abbrev pub exponent_part : List ℕ → Option ℤ
-exponent_part text = if list_any is_exponent_mark text then exponent_of (after_first is_exponent_mark text) else Some (pos 0)
+-- what an exponent adds: an optional sign and digits, or nothing where there is no exponent
+abbrev pub exponent_of : Option (List ℕ) → Option ℤ
+exponent_of None = Some (pos 0)
+exponent_of (Some text) = if is_digits (behind_sign text) then Some (with_sign (begins_with_minus text) (digits_number (behind_sign text))) else None
 
 -- digits with at most one point: those before it and those behind it
 abbrev pub decimal_of : Bool → List ℕ → List ℕ → Option ℤ → Option Decimal
@@ -56,16 +61,20 @@ decimal_of negative whole behind (Some exponent) =
 abbrev pub parsed : List ℕ → Option Decimal
 parsed text =
     let mantissa = before_first is_exponent_mark (behind_sign text)
-    in decimal_of (begins_with_minus text) (before_first is_point mantissa) (after_first is_point mantissa) (exponent_part (behind_sign text))
+    in decimal_of (begins_with_minus text) (before_first is_point mantissa) (after_first is_point mantissa) (exponent_of (exponent_text (behind_sign text)))
 
 abbrev pub fitting : Bool → ℕ → Result ℤ NumberError
 fitting negative n = if nat_lt n (2 ^ 63) then Ok (with_sign negative n) else Err TooWide
+
+-- n before the point and another number past it
+abbrev pub unless_fraction : Bool → ℕ → ℕ → Result ℤ NumberError
+unless_fraction negative n past = if nat_eq past 0 then fitting negative n else Err Fraction
 
 -- the whole number, where it is one
 abbrev pub whole_of : Bool → ℕ → ℤ → Result ℤ NumberError
 whole_of negative zero shift = Ok (pos 0)
 whole_of negative (suc n) (pos k) = fitting negative (suc n * 10 ^ k)
-whole_of negative (suc n) (negsuc k) = if nat_eq (suc n % 10 ^ suc k) 0 then fitting negative (suc n / 10 ^ suc k) else Err Fraction
+whole_of negative (suc n) (negsuc k) = unless_fraction negative (suc n / 10 ^ suc k) (suc n % 10 ^ suc k)
 
 abbrev pub number_or : Option Decimal → Result ℤ NumberError
 number_or None = Err NotNumber

@@ -22,7 +22,9 @@ pub enum NumberError {
 
 /// The value of a number text: an optional sign, digits with at most one point among, before or
 /// behind them, and optionally `e` or `E` with an exponent, which is an optional sign and digits.
-pub fn read_number(text: &[u8]) -> Result<i64, NumberError> {
+pub fn read_number(text: &[u8]) -> Result<i64, NumberError>
+    ensures { result ≡ number_of text.now }
+{
     let (mantissa, exponent) = split_exponent(behind_sign(text));
     let (whole, behind) = split_point(mantissa);
     let Some(exponent) = read_exponent(exponent) else {

@@ -1,12 +1,20 @@
 // The value of digits with a point and an exponent.
+ghost use Rattle.std.specs.Prelude.{◌≡◌, ◌+◌, ◌-◌, ◌*◌, ◌^◌, ◌<◌, ◌≤◌, ◌-ℤ◌, ◌++◌, pos, true, min, length, take, drop};
+ghost use Rattle.std.specs.List.{list_all};
+ghost use Rattle.std.specs.Char.{is_ascii_digit};
+ghost use Rattle.num_text.specs.NumberText.{digits_after, digits_number, fitting, unless_fraction, whole_of, with_sign};
+ghost use Rattle.num_text.specs.Held.{held};
+
 use crate::number::NumberError;
 use crate::parts::Exponent;
 
-// A power of ten above every number of 64 bits.
-const WIDEST: u64 = 20;
+// 10^20 is above every number of 64 bits.
+const MOST_ZEROS: u64 = 20;
 
-// The number of some digits behind those that gave `start`, held at the greatest number of its type.
-fn number_after(start: u64, digits: &[u8]) -> u64 {
+// The number of some digits behind those that gave `start`.
+fn number_after(start: u64, digits: &[u8]) -> u64
+    ensures { result ≡ held (digits_after start digits.now) }
+{
     let mut number = start;
     for &digit in digits {
         number = number
@@ -16,11 +24,15 @@ fn number_after(start: u64, digits: &[u8]) -> u64 {
     number
 }
 
-fn number_of_both(front: &[u8], back: &[u8]) -> u64 {
+fn number_of_both(front: &[u8], back: &[u8]) -> u64
+    ensures { result ≡ held (digits_number (front.now ++ back.now)) }
+{
     number_after(number_after(0, front), back)
 }
 
-fn fitted(negative: bool, number: u64) -> Result<i64, NumberError> {
+fn fitted(negative: bool, number: u64) -> Result<i64, NumberError>
+    ensures { result ≡ fitting negative number }
+{
     if number > i64::MAX as u64 {
         return Err(NumberError::TooWide);
     }
@@ -29,7 +41,9 @@ fn fitted(negative: bool, number: u64) -> Result<i64, NumberError> {
 }
 
 // The value of a number with another one past the point.
-fn whole_value(negative: bool, number: u64, past: u64) -> Result<i64, NumberError> {
+fn whole_value(negative: bool, number: u64, past: u64) -> Result<i64, NumberError>
+    ensures { result ≡ unless_fraction negative number past }
+{
     if past == 0 {
         fitted(negative, number)
     } else {
@@ -37,14 +51,17 @@ fn whole_value(negative: bool, number: u64, past: u64) -> Result<i64, NumberErro
     }
 }
 
-// The value where the point moves to the front.
-fn value_shifted_down(
+// The value where the point moves to the front by some places.
+fn value_below(
     negative: bool,
     whole: &[u8],
     behind: &[u8],
-    power: u64,
-) -> Result<i64, NumberError> {
-    let (before, past) = whole.split_at(whole.len().saturating_sub(power as usize));
+    places: u64,
+) -> Result<i64, NumberError>
+    ensures { result ≡ unless_fraction negative (digits_number (take (length whole.now - places) whole.now)) (digits_number (drop (length whole.now - places) whole.now ++ behind.now)) }
+{
+    let point = whole.len().saturating_sub(places as usize);
+    let (before, past) = whole.split_at(point);
     whole_value(
         negative,
         number_after(0, before),
@@ -52,29 +69,38 @@ fn value_shifted_down(
     )
 }
 
-// The value where the point moves to the back.
-fn value_shifted_up(
+// The value where the point moves to the back by some places, and digits stand there.
+fn value_within(
     negative: bool,
     whole: &[u8],
     behind: &[u8],
-    power: u64,
-) -> Result<i64, NumberError> {
-    let places = behind.len() as u64;
-    if power <= places {
-        let (before, past) = behind.split_at(power as usize);
-        whole_value(
-            negative,
-            number_of_both(whole, before),
-            number_after(0, past),
-        )
-    } else {
-        let zeros = (power - places).min(WIDEST) as u32;
-        let number = number_of_both(whole, behind);
-        fitted(
-            negative,
-            number.saturating_mul(10u64.saturating_pow(zeros)),
-        )
-    }
+    places: usize,
+) -> Result<i64, NumberError>
+    requires { places ≤ length behind.now }
+    ensures { result ≡ unless_fraction negative (digits_number (whole.now ++ take places behind.now)) (digits_number (drop places behind.now)) }
+{
+    let (before, past) = behind.split_at(places);
+    whole_value(
+        negative,
+        number_of_both(whole, before),
+        number_after(0, past),
+    )
+}
+
+// The value where the point moves behind the last digit and over some zeros.
+fn value_past(
+    negative: bool,
+    whole: &[u8],
+    behind: &[u8],
+    zeros: u64,
+) -> Result<i64, NumberError>
+    ensures { result ≡ fitting negative (digits_number (whole.now ++ behind.now) * 10 ^ min zeros 20) }
+{
+    let power = 10u64.saturating_pow(zeros.min(MOST_ZEROS) as u32);
+    fitted(
+        negative,
+        number_of_both(whole, behind).saturating_mul(power),
+    )
 }
 
 /// The value of the digits before and behind the point, where it is whole and fits.
@@ -83,11 +109,19 @@ pub fn value_of(
     whole: &[u8],
     behind: &[u8],
     exponent: Exponent<'_>,
-) -> Result<i64, NumberError> {
+) -> Result<i64, NumberError>
+    requires digits { list_all is_ascii_digit (whole.now ++ behind.now) ≡ true }
+    requires exponent_digits { list_all is_ascii_digit exponent.digits.now ≡ true }
+    requires room { length whole.now + length behind.now + length exponent.digits.now < 2 ^ 64 }
+    ensures { result ≡ whole_of negative (digits_number (whole.now ++ behind.now)) (with_sign exponent.entry.negative (digits_number exponent.entry.digits.now) -ℤ pos (length behind.now)) }
+{
     let power = number_after(0, exponent.digits);
+    let places = behind.len() as u64;
     if exponent.negative {
-        value_shifted_down(negative, whole, behind, power)
+        value_below(negative, whole, behind, power)
+    } else if power <= places {
+        value_within(negative, whole, behind, power as usize)
     } else {
-        value_shifted_up(negative, whole, behind, power)
+        value_past(negative, whole, behind, power - places)
     }
 }
