@@ -4,3 +4,4 @@ pub mod NumberExamples
 pub mod NumberLaws
 pub mod CutLaws
 pub mod PartLaws
+pub mod DecimalLaws

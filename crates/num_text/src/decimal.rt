@@ -1,5 +1,6 @@
 // The decimal text of a whole number.
-ghost use Rattle.std.specs.Prelude.{◌≡◌, ◌++◌, OnOk, OnErr};
+ghost use Rattle.std.specs.Prelude.{◌≡◌, ◌≤◌, ◌+◌, ◌^◌, ◌++◌, drop, OnOk, OnErr};
+ghost use Rattle.std.specs.Fmt.{decimal};
 ghost use Rattle.num_text.specs.NumberText.{integer_text};
 
 use std::alloc::AllocError;
@@ -7,19 +8,41 @@ use std::alloc::AllocError;
 // A sign and the 19 digits of 2^63.
 const LONGEST: usize = 20;
 
-/// Appends the decimal text of a number: its digits with no leading zero, and a `-` before them
-/// where it is below 0.
-pub fn write_number(out: &mut Vec<u8>, value: i64) -> Result<(), AllocError> {
-    let mut text = [0u8; LONGEST];
+// The digit of a number below 10.
+fn digit(number: u64) -> u8
+    requires { number ≤ 9 }
+    ensures { result ≡ 48 + number }
+{
+    b'0' + number as u8
+}
+
+// Writes the digits of a number at the end of `text`, and gives the place of the first one.
+fn write_digits(text: &mut [u8; LONGEST], number: u64) -> usize
+    requires { number ≤ 2 ^ 63 }
+    ensures digits { drop result text.new ≡ decimal number }
+    ensures room { 1 ≤ result }
+    ensures within { result ≤ 20 }
+{
     let mut start = LONGEST;
-    let mut left = value.unsigned_abs();
-    while left >= 10 && start > 2 {
+    let mut left = number;
+    while left >= 10 {
         start -= 1;
-        text[start] = b'0' + (left % 10) as u8;
+        text[start] = digit(left % 10);
         left /= 10;
     }
     start -= 1;
-    text[start] = b'0' + (left % 10) as u8;
+    text[start] = digit(left);
+    start
+}
+
+/// Appends the decimal text of a number: its digits with no leading zero, and a `-` before them
+/// where it is below 0. Where memory is wanting, `out` stays as it was.
+pub fn write_number(out: &mut Vec<u8>, value: i64) -> Result<(), AllocError>
+    ensures ok { OnOk result (out.new.items ≡ out.old.items ++ integer_text value) }
+    ensures err { OnErr result (out.new.items ≡ out.old.items) }
+{
+    let mut text = [0u8; LONGEST];
+    let mut start = write_digits(&mut text, value.unsigned_abs());
     if value < 0 {
         start -= 1;
         text[start] = b'-';
