@@ -5,3 +5,4 @@ pub mod NumberLaws
 pub mod CutLaws
 pub mod PartLaws
 pub mod DecimalLaws
+pub mod TextLaws

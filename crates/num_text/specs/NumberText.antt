@@ -1,5 +1,5 @@
 -- Decimal number texts.
-use Rattle.std.specs.Prelude.{ℕ, zero, suc, ◌+◌, ◌-◌, ◌*◌, ◌^◌, ◌/◌, ◌%◌, ℤ, pos, negsuc, neg_ℤ, ◌-ℤ◌, Bool, false, not, ◌&&◌, ◌||◌, nat_eq, nat_lt, if◌then◌else◌, List, [], ◌∷◌, ◌++◌, length, fold, Option, Some, None, Result, Ok, Err}
+use Rattle.std.specs.Prelude.{◌≡◌, ◌<◌, unsigned_abs, true, ℕ, zero, suc, ◌+◌, ◌-◌, ◌*◌, ◌^◌, ◌/◌, ◌%◌, ℤ, pos, negsuc, neg_ℤ, ◌-ℤ◌, Bool, false, not, ◌&&◌, ◌||◌, nat_eq, nat_lt, if◌then◌else◌, List, [], ◌∷◌, ◌++◌, length, fold, codes, bytes_eq, Option, Some, None, Result, Ok, Err}
 use Rattle.std.specs.List.{list_all, before_first, after_first, list_any}
 use Rattle.std.specs.Char.{is_ascii_digit}
 use Rattle.std.specs.Fmt.{signed_decimal}
@@ -84,6 +84,23 @@ number_or (Some d) = whole_of d.negative d.digits d.shift
 abbrev pub number_of : List ℕ → Result ℤ NumberError
 number_of text = number_or (parsed text)
 
--- the one decimal text of a whole number
+-- one digit, or more that don't begin with 0
+abbrev pub is_canonical_digits : List ℕ → Bool
+is_canonical_digits [] = false
+is_canonical_digits (b ∷ []) = is_ascii_digit b
+is_canonical_digits (b ∷ c ∷ text) = not (nat_eq b 48) && list_all is_ascii_digit (b ∷ c ∷ text)
+
+-- a minus or none and such digits, and no minus before 0
+abbrev pub is_canonical : List ℕ → Bool
+is_canonical [] = false
+is_canonical (b ∷ text) = if nat_eq b 45 then is_canonical_digits text && not (bytes_eq text (codes "0")) else is_canonical_digits (b ∷ text)
+
+-- the decimal text of a whole number
 abbrev pub integer_text : ℤ → List ℕ
 integer_text z = signed_decimal z
+
+-- text is the one canonical text that is read as z, which every z within the range of numbers has
+pub record IsDecimalTextOf (z : ℤ) (text : List ℕ) : Type 0 where
+  pub canonical : is_canonical text ≡ true
+  pub meaning : unsigned_abs z < 2 ^ 63 → number_of text ≡ Ok z
+  pub only : (other : List ℕ) → is_canonical other ≡ true → number_of other ≡ Ok z → other ≡ text

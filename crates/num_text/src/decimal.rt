@@ -1,7 +1,7 @@
 // The decimal text of a whole number.
-ghost use Rattle.std.specs.Prelude.{◌≡◌, ◌≤◌, ◌+◌, ◌^◌, ◌++◌, drop, OnOk, OnErr};
+ghost use Rattle.std.specs.Prelude.{◌≡◌, ◌≤◌, ◌+◌, ◌^◌, ◌++◌, length, drop, OnOk, OnErr};
 ghost use Rattle.std.specs.Fmt.{decimal};
-ghost use Rattle.num_text.specs.NumberText.{integer_text};
+ghost use Rattle.num_text.specs.NumberText.{integer_text, IsDecimalTextOf};
 
 use std::alloc::AllocError;
 
@@ -35,18 +35,31 @@ fn write_digits(text: &mut [u8; LONGEST], number: u64) -> usize
     start
 }
 
+// Writes the decimal text of a number at the end of `text`, and gives the place of its first byte.
+fn write_text(text: &mut [u8; LONGEST], value: i64) -> usize
+    ensures text { drop result text.new ≡ integer_text value }
+    ensures within { result ≤ 20 }
+{
+    let start = write_digits(text, value.unsigned_abs());
+    if value < 0 {
+        text[start - 1] = b'-';
+        start - 1
+    } else {
+        start
+    }
+}
+
 /// Appends the decimal text of a number: its digits with no leading zero, and a `-` before them
 /// where it is below 0. Where memory is wanting, `out` stays as it was.
 pub fn write_number(out: &mut Vec<u8>, value: i64) -> Result<(), AllocError>
     ensures ok { OnOk result (out.new.items ≡ out.old.items ++ integer_text value) }
     ensures err { OnErr result (out.new.items ≡ out.old.items) }
+
+    // The appended bytes alone are read as the number, and are its one canonical text.
+    ensures meaning { OnOk result (IsDecimalTextOf value (drop (length out.old.items) out.new.items)) }
 {
     let mut text = [0u8; LONGEST];
-    let mut start = write_digits(&mut text, value.unsigned_abs());
-    if value < 0 {
-        start -= 1;
-        text[start] = b'-';
-    }
+    let start = write_text(&mut text, value);
     out.extend_from_slice(&text[start..])?;
     Ok(())
 }

@@ -1,5 +1,5 @@
 // Decimal number texts.
-ghost use Rattle.std.specs.Prelude.{◌≡◌};
+ghost use Rattle.std.specs.Prelude.{◌≡◌, ◌<◌, ◌^◌, unsigned_abs, IfOk};
 ghost use Rattle.num_text.specs.NumberText.{number_of};
 
 use crate::parts::{are_digits, begins_with_minus, behind_sign, read_exponent, split_exponent, split_point};
@@ -23,7 +23,8 @@ pub enum NumberError {
 /// The value of a number text: an optional sign, digits with at most one point among, before or
 /// behind them, and optionally `e` or `E` with an exponent, which is an optional sign and digits.
 pub fn read_number(text: &[u8]) -> Result<i64, NumberError>
-    ensures { result ≡ number_of text.now }
+    ensures value { result ≡ number_of text.now }
+    ensures within { IfOk result (λ v. unsigned_abs v < 2 ^ 63) }
 {
     let (mantissa, exponent) = split_exponent(behind_sign(text));
     let (whole, behind) = split_point(mantissa);
