@@ -1,13 +1,12 @@
-// A library with one function.
+//! Number texts, lines and fields: the parts that every text format of the optimizer shares.
 #![tactic(auto)]
 
-ghost use Rattle.std.specs.Prelude.{◌≡◌};
-ghost use Rattle.num_text.specs.Echo.{echo_of};
+mod decimal;
+mod lines;
+mod number;
+mod parts;
+mod value;
 
-// The `ensures` clause is the contract: what `echo` returns is `echo_of` of its argument, a definition
-// in `specs/Echo.antt`, which a caller's clause can cite too.
-pub fn echo(x: usize) -> usize
-    ensures { result ≡ echo_of x }
-{
-    x
-}
+pub use decimal::write_number;
+pub use lines::{Lines, is_blank, is_read, read_fields};
+pub use number::{NumberError, read_number};
