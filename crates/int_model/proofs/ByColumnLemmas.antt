@@ -5,8 +5,7 @@ use Rattle.std.specs.List.{All}
 use Rattle.std.proofs.lemmas.List.{take_more, append-nil, get_or_default}
 use Rattle.std.proofs.lemmas.List.Elements.{filter_map-append, All-nil, All-cons}
 use Rattle.std.proofs.lemmas.Bool.Decides.{eqb_tells}
-use Rattle.int_model.specs.declared.model.Row.{Row}
-use Rattle.int_model.specs.Rows.{AreTerms}
+use Rattle.int_model.specs.Programs.{Terms, AreTerms}
 use Rattle.int_model.specs.ByColumn.{column_term, column_part, column_terms}
 
 part_more : (j i k : ℕ) (ts : List (ℕ × ℤ)) (d : ℕ × ℤ) → k < length ts → column_part j i (take (k + 1) ts) ≡ column_part j i (take k ts) ++ column_part j i (get_or ts k d ∷ [])
@@ -33,21 +32,21 @@ term_put before table ts i k j t v d e h is inside same_length so_far pushed wit
     same_default = ap (λ (w : Vec (ℕ × ℤ) Global). w.items ++ (column_part t.0 i (take k ts) ++ (i, t.1) ∷ [])) (get_or_default before t.0 e d (omega arith))
 
 -- the terms in the rows up to one more
-pub terms-append : (j i : ℕ) (rows more : List Row) → column_terms j i (rows ++ more) ≡ column_terms j i rows ++ column_terms j (i + length rows) more
+pub terms-append : (j i : ℕ) (rows more : List Terms) → column_terms j i (rows ++ more) ≡ column_terms j i rows ++ column_terms j (i + length rows) more
 terms-append j i [] more = rw add-zero refl
 terms-append j i (r ∷ rows) more =
     let next : i + 1 + length rows ≡ i + suc (length rows) = omega arith in
-    ap (λ l. column_part j i r.terms ++ l) (terms-append j (i + 1) rows more)
-    ∙ sym (append_assoc (column_part j i r.terms) (column_terms j (i + 1) rows) (column_terms j (i + 1 + length rows) more))
-    ∙ ap (λ n. (column_part j i r.terms ++ column_terms j (i + 1) rows) ++ column_terms j n more) next
+    ap (λ l. column_part j i r ++ l) (terms-append j (i + 1) rows more)
+    ∙ sym (append_assoc (column_part j i r) (column_terms j (i + 1) rows) (column_terms j (i + 1 + length rows) more))
+    ∙ ap (λ n. (column_part j i r ++ column_terms j (i + 1) rows) ++ column_terms j n more) next
 
-pub terms_more : (j k : ℕ) (rows : List Row) (d : Row) → k < length rows → column_terms j 0 (take (k + 1) rows) ≡ column_terms j 0 (take k rows) ++ column_part j k (get_or rows k d).terms
+pub terms_more : (j k : ℕ) (rows : List Terms) (d : Terms) → k < length rows → column_terms j 0 (take (k + 1) rows) ≡ column_terms j 0 (take k rows) ++ column_part j k (get_or rows k d)
 terms_more j k rows d h =
     let here_is : 0 + length (take k rows) ≡ k = simp length-take (omega arith) in
     ap (column_terms j 0) (take_more rows k d h)
     ∙ terms-append j 0 (take k rows) (get_or rows k d ∷ [])
-    ∙ ap (λ n. column_terms j 0 (take k rows) ++ (column_part j n (get_or rows k d).terms ++ [])) here_is
-    ∙ ap (λ l. column_terms j 0 (take k rows) ++ l) (append-nil (column_part j k (get_or rows k d).terms))
+    ∙ ap (λ n. column_terms j 0 (take k rows) ++ (column_part j n (get_or rows k d) ++ [])) here_is
+    ∙ ap (λ l. column_terms j 0 (take k rows) ++ l) (append-nil (column_part j k (get_or rows k d)))
 
 pub terms_below : (least n : ℕ) (ts : List (ℕ × ℤ)) → AreTerms least n ts → All (λ t. t.0 < n) ts
 terms_below least n [] h = All-nil (λ t. t.0 < n)

@@ -1,7 +1,8 @@
 // The terms of the rows, put under their columns.
-ghost use Rattle.std.specs.Prelude.{◌≡◌, ◌++◌, ◌<◌, ◌≤◌, ℕ, ℤ, All, Vec, IfOk, OnOk, length, slice_index_or, vec_len};
+ghost use Rattle.std.specs.Prelude.{◌≡◌, ◌++◌, ◌<◌, ◌≤◌, ℕ, ℤ, All, Vec, IfOk, OnOk, length, map, slice_index_or, vec_len};
 ghost use Rattle.std.specs.declared.alloc.Global.{Global as Heap};
-ghost use Rattle.int_model.specs.Rows.{IsRow};
+ghost use Rattle.int_model.specs.Models.{IsRow};
+ghost use Rattle.int_model.specs.declared.model.Row.{Row as RowValue};
 ghost use Rattle.int_model.specs.ByColumn.{column_part, IsByColumn};
 
 use crate::Row;
@@ -39,7 +40,7 @@ pub(crate) fn terms_by_column(
 ) -> Result<Vec<Vec<(u32, i64)>>, AllocError>
     requires few { length rows.now ≤ 1000 }
     requires rows { All (IsRow columns) rows.now }
-    ensures { IfOk result (λ v. IsByColumn columns rows.now v.items) }
+    ensures { IfOk result (λ v. IsByColumn columns (map (λ (i : RowValue). i.terms) rows.now) v.items) }
 {
     let mut table = empty_columns(alloc, columns)?;
     for (i, row) in rows.iter().enumerate() {
