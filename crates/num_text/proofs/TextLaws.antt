@@ -198,30 +198,3 @@ pub appended_text : (z : ℤ) (old new : List ℕ) → unsigned_abs z < 2 ^ 64 �
 appended_text z old new h e =
     let text : drop (length old) new ≡ integer_text z = ap (drop (length old)) e ∙ drop_at old (integer_text z) (length old) refl in
     rw text (decimal_text z h)
-
--- ---- the range of what is read
-
-sign_within : (negative : Bool) (n : ℕ) → n < 2 ^ 63 → unsigned_abs (with_sign negative n) < 2 ^ 63
-sign_within true zero h = h
-sign_within true (suc n) h = h
-sign_within false n h = h
-
-fitting_within : (negative : Bool) (n : ℕ) → IfOk (fitting negative n) (λ v. unsigned_abs v < 2 ^ 63)
-fitting_within negative n =
-    elim (cases_lt n (2 ^ 63)) [
-      | inl less ↦ rw (fits negative n less) (sign_within negative n less)
-      | inr more ↦ rw (too_wide negative n more) tt
-    ]
-
-unless_within : (negative : Bool) (n past : ℕ) → IfOk (unless_fraction negative n past) (λ v. unsigned_abs v < 2 ^ 63)
-unless_within negative n past = elim (nat_eq past 0) as (λ t. IfOk (cond t (fitting negative n) (Err Fraction)) (λ v. unsigned_abs v < 2 ^ 63)) [ true ↦ fitting_within negative n | false ↦ tt ]
-
-whole_within : (negative : Bool) (n : ℕ) (shift : ℤ) → IfOk (whole_of negative n shift) (λ v. unsigned_abs v < 2 ^ 63)
-whole_within negative zero shift = lit< tt
-whole_within negative (suc n) (pos k) = fitting_within negative (suc n * 10 ^ k)
-whole_within negative (suc n) (negsuc k) = unless_within negative (suc n / 10 ^ suc k) (suc n % 10 ^ suc k)
-
--- every number that is read lies within the range
-pub number_or-within : (d : Option Decimal) → IfOk (number_or d) (λ v. unsigned_abs v < 2 ^ 63)
-number_or-within None = tt
-number_or-within (Some d) = whole_within d.negative d.digits d.shift
