@@ -3,7 +3,9 @@ use std::alloc::{AllocError, Global};
 use std::test::Fail;
 
 const NOT: Result<i64, NumberError> = Err(NumberError::NotNumber);
+
 const FRACTION: Result<i64, NumberError> = Err(NumberError::Fraction);
+
 const WIDE: Result<i64, NumberError> = Err(NumberError::TooWide);
 
 #[test]
