@@ -1,5 +1,5 @@
 -- The value of digits that a point cuts in two, where the point moves.
-use Rattle.std.proofs.Common.{◌≡◌, ◌∙◌, ap, sym, ℕ, zero, suc, ◌+◌, ◌-◌, ◌*◌, ◌^◌, ◌<◌, ◌≤◌, ℤ, pos, neg_ℤ, ◌-ℤ◌, min, Bool, true, false, List, [], ◌∷◌, ◌++◌, length, take, drop, refl, arith, inl, inr, ◌⊎◌, append_assoc, length-append, length-drop, subst}
+use Rattle.std.proofs.Common.{◌≡◌, ◌∙◌, ap, sym, ℕ, zero, suc, ◌+◌, ◌-◌, ◌*◌, ◌^◌, ◌<◌, ◌≤◌, ℤ, pos, neg_ℤ, ◌-ℤ◌, min, Bool, true, false, List, [], ◌∷◌, ◌++◌, length, take, drop, refl, arith, inl, inr, ◌⊎◌, append_assoc, length-append, length-drop}
 use Rattle.std.specs.List.{list_all}
 use Rattle.std.specs.Char.{is_ascii_digit}
 use Rattle.std.proofs.lemmas.Bool.{cases_lt}
@@ -9,7 +9,7 @@ use Rattle.std.proofs.lemmas.Nat.{mul-le}
 use Rattle.std.proofs.Math.Nat.{pow-le-pow_right, zero-mul}
 use Rattle.num_text.specs.NumberText.{digits_number, with_sign, fitting, unless_fraction, whole_of}
 use Rattle.num_text.specs.Held.{held}
-use Rattle.num_text.proofs.NumberLaws.{and_parts, digits_number-append, digits_number-lt, held_fitting, too_wide, whole_of-pos, whole_of-neg}
+use Rattle.num_text.proofs.NumberLaws.{and_parts, digits_number-append, digits_number-lt, too_wide, whole_of-pos, whole_of-neg}
 
 list_all-back : (xs ys : List ℕ) → list_all is_ascii_digit (xs ++ ys) ≡ true → list_all is_ascii_digit ys ≡ true
 list_all-back [] ys h = h
@@ -85,7 +85,7 @@ whole_of-back negative whole behind digits p h is fits past =
     ap (λ s. whole_of negative (digits_number (whole ++ behind)) s) (shift_up (digits_number digits) (length behind) above)
     ∙ whole_of-pos negative (digits_number (whole ++ behind)) (digits_number digits - length behind)
     ∙ zeros_held negative (digits_number (whole ++ behind)) (min (p - length behind) 20) (digits_number digits - length behind)
-        (elim (power_cases digits p (length behind) h is fits) [
-          | inl exact ↦ rw (← exact) (held_zeros (p - length behind))
-          | inr far ↦ inr (omega arith, omega arith)
-        ])
+    (elim (power_cases digits p (length behind) h is fits) [
+      | inl exact ↦ rw (← exact) (held_zeros (p - length behind))
+      | inr far ↦ inr (omega arith, omega arith)
+    ])

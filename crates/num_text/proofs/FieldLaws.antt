@@ -1,5 +1,5 @@
 -- The fields of a line.
-use Rattle.std.proofs.Common.{◌≡◌, ℕ, Bool, cond, true, false, not, ◌||◌, List, [], ◌∷◌, filter, refl}
+use Rattle.std.proofs.Common.{◌≡◌, ℕ, cond, true, false, not, ◌||◌, List, [], ◌∷◌, filter, refl}
 use Rattle.std.specs.List.{slice_split, onto_first, list_any}
 use Rattle.num_text.specs.Lines.{is_blank, is_nonempty, fields_of}
 

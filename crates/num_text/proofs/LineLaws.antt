@@ -1,7 +1,6 @@
 -- The first line of a text, and those behind it.
-use Rattle.std.proofs.Common.{◌≡◌, ◌∙◌, ap, ℕ, ◌+◌, ◌<◌, ◌≤◌, Bool, cond, true, false, List, [], ◌∷◌, length, take, drop, refl, arith, Option, Some, None, ltb}
-use Rattle.std.specs.List.{slice_split, onto_first, position_or_len, position, All}
-use Rattle.std.proofs.lemmas.List.{take_all, drop_all}
+use Rattle.std.proofs.Common.{◌≡◌, ◌∙◌, ap, ℕ, ◌+◌, ◌<◌, ◌≤◌, Bool, cond, true, false, List, [], ◌∷◌, length, take, drop, suc, refl, arith, Some, None}
+use Rattle.std.specs.List.{slice_split, onto_first, position_or_len, position}
 use Rattle.std.proofs.lemmas.List.Sums.{fails_before_first}
 use Rattle.std.proofs.lemmas.List.Splits.{slice_split_first, slice_split_none}
 use Rattle.std.proofs.lemmas.Bool.Decides.{nat_tests}
@@ -36,3 +35,18 @@ pub lines_of-last : (bytes : List ℕ) → position is_line_feed bytes ≡ None 
 lines_of-last bytes e some =
     let ends : length bytes ≤ position_or_len is_line_feed bytes = position-None is_line_feed bytes e in
     ap without_last_empty (slice_split_none is_line_feed bytes (λ k d h. fails_before_first is_line_feed bytes k d (omega arith))) ∙ nonempty_line bytes some
+
+one_byte_more : (b : ℕ) (parts : List (List ℕ)) → length (without_last_empty (onto_first b parts)) ≤ suc (length (without_last_empty parts))
+one_byte_more b [] = omega arith
+one_byte_more b (part ∷ []) = omega arith
+one_byte_more b (part ∷ k ∷ more) = omega arith
+
+-- each line has a byte or a line feed
+pub length-lines_of : (bytes : List ℕ) → length (lines_of bytes) ≤ length bytes
+length-lines_of [] = omega arith
+length-lines_of (b ∷ bytes) =
+    let rest : length (lines_of bytes) ≤ length bytes = length-lines_of bytes in
+    elim (is_line_feed b) as (λ t. length (without_last_empty (cond t ([] ∷ slice_split is_line_feed bytes) (onto_first b (slice_split is_line_feed bytes)))) ≤ suc (length bytes)) [
+      | true ↦ rw (onto_last is_line_feed [] bytes) (omega arith)
+      | false ↦ omega (arith, one_byte_more b (slice_split is_line_feed bytes))
+    ]

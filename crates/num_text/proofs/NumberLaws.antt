@@ -1,6 +1,6 @@
 -- Digits and the numbers that they spell.
-use Rattle.std.proofs.Common.{◌≡◌, ◌∙◌, ap, sym, ℕ, zero, suc, ◌+◌, ◌-◌, ◌*◌, ◌^◌, ◌/◌, ◌%◌, ◌<◌, ◌≤◌, ℤ, pos, negsuc, neg_ℤ, min, Bool, cond, true, false, List, [], ◌∷◌, ◌++◌, length, Ok, refl, arith, inl, inr, lit<, zero-add, drop, get_or, ◌&&◌, Err}
-use Rattle.std.specs.List.{list_all, fold}
+use Rattle.std.proofs.Common.{◌≡◌, ◌∙◌, ap, sym, ℕ, zero, suc, ◌+◌, ◌-◌, ◌*◌, ◌^◌, ◌<◌, ◌≤◌, pos, neg_ℤ, Bool, true, false, List, [], ◌∷◌, ◌++◌, length, refl, arith, inl, inr, lit<, zero-add, drop, get_or, ◌&&◌, Err}
+use Rattle.std.specs.List.{list_all}
 use Rattle.std.specs.Char.{is_ascii_digit}
 use Rattle.std.proofs.lemmas.Bool.Decides.{nat_tests}
 use Rattle.std.proofs.lemmas.Bool.{cases_lt}
@@ -8,7 +8,7 @@ use Rattle.std.proofs.lemmas.List.{drop_more}
 use Rattle.num_text.specs.Held.{held}
 use Rattle.std.proofs.lemmas.Nat.{div-mul-add, mod-mul-add, mul-le}
 use Rattle.std.proofs.Math.Nat.{pow-succ', mul_comm, mul_assoc, mul-one, zero-mul, add-mul, min-eq_left}
-use Rattle.num_text.specs.NumberText.{digits_after, digits_number, with_sign, fitting, unless_fraction, whole_of}
+use Rattle.num_text.specs.NumberText.{digits_after, digits_number, fitting, unless_fraction, whole_of}
 use Rattle.num_text.specs.declared.number.NumberError.TheVariants.{Fraction, TooWide}
 
 pub digits_after-append : (n : ℕ) (xs ys : List ℕ) → digits_after n (xs ++ ys) ≡ digits_after (digits_after n xs) ys
@@ -83,9 +83,9 @@ nonzero negative n m some more =
     held_fitting negative (held n * held m) ∙ elim (cases_lt (2 ^ 64 - 1) n) [
       | inl above ↦ too_wide negative _ (omega arith) ∙ sym (too_wide negative (n * m) (omega arith))
       | inr within ↦ elim (cases_lt (2 ^ 64 - 1) m) [
-          | inl above ↦ too_wide negative _ (omega arith) ∙ sym (too_wide negative (n * m) (omega arith))
-          | inr also ↦ rw (min-eq_left within, min-eq_left also) refl
-        ]
+        | inl above ↦ too_wide negative _ (omega arith) ∙ sym (too_wide negative (n * m) (omega arith))
+        | inr also ↦ rw (min-eq_left within, min-eq_left also) refl
+      ]
     ]
 
 -- a product of held numbers is held

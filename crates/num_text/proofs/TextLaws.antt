@@ -1,9 +1,8 @@
 -- Decimal texts and their values.
-use Rattle.std.proofs.Common.{◌≡◌, ◌≢◌, ◌∙◌, ap, sym, ℕ, zero, suc, ◌+◌, ◌-◌, ◌*◌, ◌^◌, ◌<◌, ◌≤◌, ℤ, pos, negsuc, neg_ℤ, Bool, cond, true, false, not, ◌&&◌, ◌||◌, List, [], ◌∷◌, ◌++◌, length, take, drop, get_or, Option, Some, None, Result, Ok, Err, refl, arith, rules, inl, inr, nat_eq, lit<, ◌/◌, ◌%◌, unsigned_abs, IfOk}
+use Rattle.std.proofs.Common.{◌≡◌, ◌∙◌, ap, sym, ℕ, zero, suc, ◌+◌, ◌-◌, ◌^◌, ◌<◌, ℤ, pos, negsuc, Bool, true, false, not, List, [], ◌∷◌, ◌++◌, length, drop, get_or, Some, Result, Ok, Err, refl, arith, rules, inl, inr, nat_eq, unsigned_abs}
 use Rattle.std.specs.List.{list_all, list_any, position_or_len, before_first, after_first}
 use Rattle.std.specs.Char.{is_ascii_digit}
-use Rattle.std.specs.Int.{IsInRange}
-use Rattle.std.specs.Fmt.{decimal, signed_decimal}
+use Rattle.std.specs.Fmt.{decimal}
 use Rattle.std.specs.Str.{bytes_eq}
 use Rattle.std.specs.Prelude.{codes}
 use Rattle.std.proofs.lemmas.Bool.{cases_lt}
@@ -13,11 +12,11 @@ use Rattle.std.proofs.lemmas.List.{take_all, drop_all, drop_at, append-nil}
 use Rattle.std.proofs.lemmas.Slice.Eq.{bytes_eq-Decides}
 use Rattle.std.proofs.lemmas.Str.Parse.{IsNumeralModel, IsDigitsTest, FoldsDigits, numerals_by_fold}
 use Rattle.std.proofs.Math.Nat.{mul_comm, mul-one}
-use Rattle.num_text.specs.NumberText.{Decimal, digits_after, digits_number, begins_with_minus, behind_sign, with_sign, is_digits, is_point, is_exponent_mark, decimal_of, parsed, exponent_of, exponent_text, fitting, unless_fraction, whole_of, number_or, number_of, integer_text, is_canonical, is_canonical_digits, IsDecimalTextOf}
+use Rattle.num_text.specs.NumberText.{digits_after, digits_number, begins_with_minus, behind_sign, with_sign, is_digits, is_point, is_exponent_mark, decimal_of, exponent_of, exponent_text, fitting, number_or, number_of, integer_text, is_canonical, is_canonical_digits, IsDecimalTextOf}
 use Rattle.num_text.specs.Lines.{is_nonempty}
 use Rattle.num_text.proofs.PartLaws.{number_of-parts}
 use Rattle.num_text.specs.declared.number.NumberError.{NumberError}
-use Rattle.num_text.specs.declared.number.NumberError.TheVariants.{NotNumber, Fraction, TooWide}
+use Rattle.num_text.specs.declared.number.NumberError.TheVariants.{TooWide}
 use Rattle.num_text.proofs.NumberLaws.{and_parts, too_wide, whole_of-pos}
 
 abbrev IsAllDigits : List ℕ → Type 0
@@ -29,6 +28,7 @@ own = numerals_by_fold IsAllDigits own_digits digits_after own_fold
   where
     own_digits : IsDigitsTest IsAllDigits
     own_digits = search rules
+
     own_fold : FoldsDigits digits_after
     own_fold = record { empty = λ n. refl; more = λ n c cs h. ap (λ m. digits_after (m + (c - 48)) cs) (mul_comm 10 n) }
 
@@ -139,7 +139,7 @@ decimal_plain zero h = rw (decimal_digit 0 (omega arith)) (record { digits = ref
 decimal_plain (suc n) h = record {
   digits = digits_decimal own (suc n) h;
   some = decimal_nonempty (suc n) h;
-  first = λ e. absurd (omega (arith, first_decimal (suc n) (omega arith) h))
+  first = λ e. absurd (omega (arith, first_decimal (suc n) (omega arith) h));
 }
 
 canonical_digits : (text : List ℕ) → is_digits text ≡ true → is_canonical text ≡ is_canonical_digits text
@@ -190,7 +190,7 @@ pub decimal_text : (z : ℤ) → unsigned_abs z < 2 ^ 64 → IsDecimalTextOf z (
 decimal_text z h = record {
   canonical = is_canonical-integer_text z h;
   meaning = number_of-integer_text z;
-  only = only_text z
+  only = only_text z;
 }
 
 -- what stands behind the old list once the text is appended
@@ -198,30 +198,3 @@ pub appended_text : (z : ℤ) (old new : List ℕ) → unsigned_abs z < 2 ^ 64 �
 appended_text z old new h e =
     let text : drop (length old) new ≡ integer_text z = ap (drop (length old)) e ∙ drop_at old (integer_text z) (length old) refl in
     rw text (decimal_text z h)
-
--- ---- the range of what is read
-
-sign_within : (negative : Bool) (n : ℕ) → n < 2 ^ 63 → unsigned_abs (with_sign negative n) < 2 ^ 63
-sign_within true zero h = h
-sign_within true (suc n) h = h
-sign_within false n h = h
-
-fitting_within : (negative : Bool) (n : ℕ) → IfOk (fitting negative n) (λ v. unsigned_abs v < 2 ^ 63)
-fitting_within negative n =
-    elim (cases_lt n (2 ^ 63)) [
-      | inl less ↦ rw (fits negative n less) (sign_within negative n less)
-      | inr more ↦ rw (too_wide negative n more) tt
-    ]
-
-unless_within : (negative : Bool) (n past : ℕ) → IfOk (unless_fraction negative n past) (λ v. unsigned_abs v < 2 ^ 63)
-unless_within negative n past = elim (nat_eq past 0) as (λ t. IfOk (cond t (fitting negative n) (Err Fraction)) (λ v. unsigned_abs v < 2 ^ 63)) [ true ↦ fitting_within negative n | false ↦ tt ]
-
-whole_within : (negative : Bool) (n : ℕ) (shift : ℤ) → IfOk (whole_of negative n shift) (λ v. unsigned_abs v < 2 ^ 63)
-whole_within negative zero shift = lit< tt
-whole_within negative (suc n) (pos k) = fitting_within negative (suc n * 10 ^ k)
-whole_within negative (suc n) (negsuc k) = unless_within negative (suc n / 10 ^ suc k) (suc n % 10 ^ suc k)
-
--- every number that is read lies within the range
-pub number_or-within : (d : Option Decimal) → IfOk (number_or d) (λ v. unsigned_abs v < 2 ^ 63)
-number_or-within None = tt
-number_or-within (Some d) = whole_within d.negative d.digits d.shift

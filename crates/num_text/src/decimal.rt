@@ -63,3 +63,6 @@ pub fn write_number(out: &mut Vec<u8>, value: i64) -> Result<(), AllocError>
     out.extend_from_slice(&text[start..])?;
     Ok(())
 }
+
+#[cfg(test)]
+mod tests;

@@ -8,5 +8,5 @@ mod parts;
 mod value;
 
 pub use decimal::write_number;
-pub use lines::{Lines, is_blank, is_read, read_fields};
+pub use lines::{Lines, has_fields, is_blank, is_read, read_fields};
 pub use number::{NumberError, read_number};

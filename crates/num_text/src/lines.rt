@@ -1,5 +1,5 @@
 // Lines and fields of a text.
-ghost use Rattle.std.specs.Prelude.{◌≡◌, ℕ, List, ◌<◌, ◌∷◌, length, map, OnOk, not, position};
+ghost use Rattle.std.specs.Prelude.{◌≡◌, ℕ, List, ◌<◌, ◌≤◌, ◌∷◌, length, map, OnOk, not, position};
 ghost use Rattle.std.specs.List.{list_any};
 ghost use Rattle.std.specs.Iterator.{YieldsFirstRef, item_count};
 ghost use Rattle.num_text.specs.Lines as lines;
@@ -39,7 +39,7 @@ fn split_line(bytes: &[u8]) -> (&[u8], &[u8])
 }
 
 /// Replaces the content of `fields` by the fields of a line: its longest runs of bytes that aren't
-/// blank. On an error `fields` has the first ones of them.
+/// blank. Where memory is wanting, the content is left open.
 pub fn read_fields<'a>(line: &'a [u8], fields: &mut Vec<&'a [u8]>) -> Result<(), AllocError>
     ensures { OnOk result (map (λ f. f.now) fields.new.items ≡ lines.fields_of line.now) }
 {
@@ -78,7 +78,8 @@ pub fn is_read(line: &[u8]) -> bool
 }
 
 /// The lines of a text, each without its line feed. Bytes behind the last line feed are a line
-/// where there are any. A contract sees the lines that are still to come.
+/// where there are any. A contract sees the lines that are still to come, and the iterator gives
+/// them in order.
 #[derive(Drop)]
 pub struct Lines<'a> {
     rest: &'a [u8],
@@ -92,7 +93,8 @@ impl<'a> marker::Model for Lines<'a> {
 
 impl<'a> Lines<'a> {
     pub fn new(bytes: &'a [u8]) -> Lines<'a>
-        ensures { result ≡ lines.lines_of bytes.now }
+        ensures lines { result ≡ lines.lines_of bytes.now }
+        ensures bound { length result ≤ length bytes.now }
     {
         Lines { rest: bytes }
     }
@@ -114,3 +116,6 @@ impl<'a> Iterator for Lines<'a> {
         Some(line)
     }
 }
+
+#[cfg(test)]
+mod tests;

@@ -2,7 +2,9 @@
 ghost use Rattle.std.specs.Prelude.{◌≡◌, ◌<◌, ◌^◌, unsigned_abs, IfOk};
 ghost use Rattle.num_text.specs.NumberText.{number_of};
 
-use crate::parts::{are_digits, begins_with_minus, behind_sign, read_exponent, split_exponent, split_point};
+use crate::parts::{
+    are_digits, begins_with_minus, behind_sign, read_exponent, split_exponent, split_point,
+};
 use crate::value::value_of;
 use thiserror::Error;
 

@@ -52,12 +52,7 @@ fn whole_value(negative: bool, number: u64, past: u64) -> Result<i64, NumberErro
 }
 
 // The value where the point moves to the front by some places.
-fn value_below(
-    negative: bool,
-    whole: &[u8],
-    behind: &[u8],
-    places: u64,
-) -> Result<i64, NumberError>
+fn value_below(negative: bool, whole: &[u8], behind: &[u8], places: u64) -> Result<i64, NumberError>
     ensures { result ≡ unless_fraction negative (digits_number (take (length whole.now - places) whole.now)) (digits_number (drop (length whole.now - places) whole.now ++ behind.now)) }
 {
     let point = whole.len().saturating_sub(places as usize);
@@ -88,12 +83,7 @@ fn value_within(
 }
 
 // The value where the point moves behind the last digit and over some zeros.
-fn value_past(
-    negative: bool,
-    whole: &[u8],
-    behind: &[u8],
-    zeros: u64,
-) -> Result<i64, NumberError>
+fn value_past(negative: bool, whole: &[u8], behind: &[u8], zeros: u64) -> Result<i64, NumberError>
     ensures { result ≡ fitting negative (digits_number (whole.now ++ behind.now) * 10 ^ min zeros 20) }
 {
     let power = 10u64.saturating_pow(zeros.min(MOST_ZEROS) as u32);

@@ -12,7 +12,7 @@ loop-left-preserved c =
       room = omega arith;
       within = omega arith;
       length = omega (arith, length-set c.loop-left.text (c.loop-left.start - 1) c.digit.result);
-      fits = omega arith
+      fits = omega arith;
     }
 
 pub returns-clause-digits : goal.returns-clause-digits

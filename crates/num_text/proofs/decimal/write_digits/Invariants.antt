@@ -9,7 +9,7 @@ invariant-loop-left l = record {
   room : 2 ≤ l.start;
   within : l.start ≤ 20;
   length : length l.text ≡ 20;
-  fits : l.left < 2 ^ 64
+  fits : l.left < 2 ^ 64;
 }
 
 abbrev pub decreases-loop-left : goal.decreases-loop-left

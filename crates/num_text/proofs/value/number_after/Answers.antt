@@ -8,7 +8,7 @@ use Rattle.num_text.proofs.value.number_after.Goals as goal
 pub loop-digit-preserved : goal.loop-digit-preserved
 loop-digit-preserved c = record {
   so_far = held_more c.args.start c.loop-digit.number c.saturating_add-number.result c.args.digits.now c.loop-digit.digit-index c.loop-digit-test.true c.loop-digit.invariant.so_far (omega arith);
-  fits = omega arith
+  fits = omega arith;
 }
 
 pub returns : goal.returns

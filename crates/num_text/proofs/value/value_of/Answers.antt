@@ -1,4 +1,4 @@
-use Rattle.std.proofs.Common.{◌≡◌, ◌∙◌, sym, ap, ℕ, ◌+◌, ◌≤◌, length, inl, inr, arith}
+use Rattle.std.proofs.Common.{◌≡◌, ◌∙◌, sym, length, inl, inr, arith}
 use Rattle.num_text.specs.NumberText.{digits_number}
 use Rattle.num_text.proofs.CutLaws.{whole_of-front, whole_of-within, whole_of-back, power_cases}
 use Rattle.num_text.proofs.value.value_of.Goals as goal
@@ -11,10 +11,10 @@ returns-then-exponent c =
 pub returns-then-power-places : goal.returns-then-power-places
 returns-then-power-places c =
     let exact : c.number_after-power.result ≡ digits_number c.args.exponent.digits.now =
-        elim (power_cases c.args.exponent.digits.now c.number_after-power.result (length c.args.behind.now) c.requires.exponent_digits c.number_after-power.ensures (omega arith)) [
-          | inl same ↦ same
-          | inr far ↦ absurd (omega arith)
-        ] in
+    elim (power_cases c.args.exponent.digits.now c.number_after-power.result (length c.args.behind.now) c.requires.exponent_digits c.number_after-power.ensures (omega arith)) [
+      | inl same ↦ same
+      | inr far ↦ absurd (omega arith)
+    ] in
     c.value_within.ensures
     ∙ rw (c.if-exponent.false, exact) (sym (whole_of-within c.args.negative c.args.whole.now c.args.behind.now (digits_number c.args.exponent.digits.now) c.requires.digits (omega arith)))
 

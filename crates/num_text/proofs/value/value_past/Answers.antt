@@ -1,4 +1,4 @@
-use Rattle.std.proofs.Common.{◌≡◌, ◌∙◌, ap, ◌+◌, ◌*◌, ◌^◌, ◌<◌, ◌++◌, ℕ, min, arith}
+use Rattle.std.proofs.Common.{◌≡◌, ◌∙◌, ap, ◌*◌, ◌^◌, ◌++◌, min, arith}
 use Rattle.std.proofs.Math.Nat.{one-le-pow}
 use Rattle.num_text.specs.NumberText.{digits_number, fitting}
 use Rattle.num_text.specs.Held.{held}
