@@ -1,0 +1,68 @@
+//! Row activities: the least and the greatest sum of a row over a box.
+#![tactic(auto)]
+
+ghost use Rattle.std.specs.Prelude.{◌≡◌, ◌≤◌, ◌^◌, ◌*ℤ◌, unsigned_abs};
+ghost use Rattle.int_model.specs.Limits.{IsBound, IsEntry};
+ghost use Rattle.int_model.specs.Boxes.{box_of};
+ghost use Rattle.int_model.specs.RowSums.{least_product, greatest_product, least_sum, greatest_sum};
+ghost use Rattle.activity.specs.Sums.{AreSummed};
+
+// A coefficient times a bound.
+fn product(coefficient: i64, bound: i32) -> i64
+    requires coefficient { IsEntry coefficient }
+    requires bound { IsBound bound }
+    ensures value { result ≡ coefficient *ℤ bound }
+    ensures limit { unsigned_abs result ≤ 10 ^ 15 }
+{
+    coefficient * i64::from(bound)
+}
+
+// The least product of a coefficient with a number of an interval that isn't empty.
+fn least_of(coefficient: i64, low: i32, high: i32) -> i64
+    requires coefficient { IsEntry coefficient }
+    requires low { IsBound low }
+    requires high { IsBound high }
+    ensures value { result ≡ least_product coefficient (record { low = low; high = high }) }
+    ensures limit { unsigned_abs result ≤ 10 ^ 15 }
+{
+    product(coefficient, low).min(product(coefficient, high))
+}
+
+// The greatest product of a coefficient with a number of an interval that isn't empty.
+fn greatest_of(coefficient: i64, low: i32, high: i32) -> i64
+    requires coefficient { IsEntry coefficient }
+    requires low { IsBound low }
+    requires high { IsBound high }
+    ensures value { result ≡ greatest_product coefficient (record { low = low; high = high }) }
+    ensures limit { unsigned_abs result ≤ 10 ^ 15 }
+{
+    product(coefficient, low).max(product(coefficient, high))
+}
+
+/// The least sum of a row over the box with these ends. A row's terms are columns, which rise, and coefficients.
+pub fn least(terms: &[(u32, i64)], low: &[i32], high: &[i32]) -> i64
+    requires { AreSummed terms.now low.now high.now }
+    ensures value { result ≡ least_sum terms.now (box_of low.now high.now) }
+    ensures limit { unsigned_abs result ≤ 10 ^ 18 }
+{
+    let mut sum = 0;
+    for &(column, coefficient) in terms {
+        let column = column as usize;
+        sum += least_of(coefficient, low[column], high[column]);
+    }
+    sum
+}
+
+/// The greatest sum of a row over the box with these ends.
+pub fn most(terms: &[(u32, i64)], low: &[i32], high: &[i32]) -> i64
+    requires { AreSummed terms.now low.now high.now }
+    ensures value { result ≡ greatest_sum terms.now (box_of low.now high.now) }
+    ensures limit { unsigned_abs result ≤ 10 ^ 18 }
+{
+    let mut sum = 0;
+    for &(column, coefficient) in terms {
+        let column = column as usize;
+        sum += greatest_of(coefficient, low[column], high[column]);
+    }
+    sum
+}

@@ -1,0 +1,194 @@
+// The section BOUNDS: the sides of each column, which later lines set anew.
+ghost use Rattle.std.specs.Prelude.{◌<◌, IfOk, vec_len};
+
+use crate::MpsKind;
+use crate::columns::Columns;
+use crate::fault::{SetName, number_within};
+
+const MAX_BOUND: u64 = 1_000_000;
+
+/// A side of a column's bounds: a number, or infinite.
+pub(crate) type Limit = Option<i64>;
+
+/// What the lines of BOUNDS say of a column.
+#[derive(Clone, Copy, Debug, PartialEq, Eq)]
+pub(crate) struct Bounds {
+    is_named: bool,
+    is_integer: bool,
+    low: Option<Limit>,
+    high: Option<Limit>,
+    /// Whether a line of type UP or UI set the high side last.
+    high_is_upper: bool,
+}
+
+// The types of bounds that take a value.
+#[derive(Clone, Copy, Debug, PartialEq, Eq)]
+enum ValueBound {
+    Lower,
+    Upper,
+    Fixed,
+    IntegerLower,
+    IntegerUpper,
+}
+
+// The types of bounds that take none.
+#[derive(Clone, Copy, Debug, PartialEq, Eq)]
+enum PlainBound {
+    Free,
+    MinusInfinity,
+    PlusInfinity,
+    Binary,
+}
+
+fn value_bound_named(word: &[u8]) -> Option<ValueBound> {
+    match word {
+        b"LO" => Some(ValueBound::Lower),
+        b"UP" => Some(ValueBound::Upper),
+        b"FX" => Some(ValueBound::Fixed),
+        b"LI" => Some(ValueBound::IntegerLower),
+        b"UI" => Some(ValueBound::IntegerUpper),
+        _ => None,
+    }
+}
+
+fn plain_bound_named(word: &[u8]) -> Option<PlainBound> {
+    match word {
+        b"FR" => Some(PlainBound::Free),
+        b"MI" => Some(PlainBound::MinusInfinity),
+        b"PL" => Some(PlainBound::PlusInfinity),
+        b"BV" => Some(PlainBound::Binary),
+        _ => None,
+    }
+}
+
+impl Bounds {
+    pub(crate) fn new() -> Self {
+        Bounds {
+            is_named: false,
+            is_integer: false,
+            low: None,
+            high: None,
+            high_is_upper: false,
+        }
+    }
+
+    fn set_low(&mut self, limit: Limit) {
+        self.is_named = true;
+        self.low = Some(limit);
+    }
+
+    fn set_high(&mut self, limit: Limit, is_upper: bool) {
+        self.is_named = true;
+        self.high = Some(limit);
+        self.high_is_upper = is_upper;
+    }
+
+    fn set_value(&mut self, bound: ValueBound, value: i64) {
+        match bound {
+            ValueBound::Lower => self.set_low(Some(value)),
+            ValueBound::Upper => self.set_high(Some(value), true),
+            ValueBound::Fixed => {
+                self.set_low(Some(value));
+                self.set_high(Some(value), false);
+            }
+            ValueBound::IntegerLower => {
+                self.is_integer = true;
+                self.set_low(Some(value));
+            }
+            ValueBound::IntegerUpper => {
+                self.is_integer = true;
+                self.set_high(Some(value), true);
+            }
+        }
+    }
+
+    fn set_plain(&mut self, bound: PlainBound) {
+        match bound {
+            PlainBound::Free => {
+                self.set_low(None);
+                self.set_high(None, false);
+            }
+            PlainBound::MinusInfinity => self.set_low(None),
+            PlainBound::PlusInfinity => self.set_high(None, false),
+            PlainBound::Binary => {
+                self.is_integer = true;
+                self.set_low(Some(0));
+                self.set_high(Some(1), false);
+            }
+        }
+    }
+
+    fn has_negative_upper(&self) -> bool {
+        self.high_is_upper && matches!(self.high, Some(Some(value)) if value < 0)
+    }
+
+    /// The two sides of a column at the end of the text, where its bounds are good. `is_marked` tells whether it
+    /// began in an integer part.
+    pub(crate) fn sides(&self, is_marked: bool) -> Result<(Limit, Limit), MpsKind> {
+        if !is_marked && !self.is_integer {
+            return Err(MpsKind::Continuous);
+        }
+        if self.low.is_none() && self.has_negative_upper() {
+            return Err(MpsKind::NegativeUpper);
+        }
+        let low = self.low.unwrap_or(Some(0));
+        let high = self.high.unwrap_or(if self.is_implied(is_marked) { Some(1) } else { None });
+        if low.is_none() || high.is_none() {
+            return Err(MpsKind::Unbounded);
+        }
+        Ok((low, high))
+    }
+
+    /// Whether no line names the column, which began in an integer part: its bounds are then 0 and 1.
+    pub(crate) fn is_implied(&self, is_marked: bool) -> bool {
+        is_marked && !self.is_named
+    }
+}
+
+/// Takes a line of the section.
+pub(crate) fn take_bound<'a>(
+    set: &mut SetName<'a>,
+    columns: &mut Columns<'a>,
+    fields: &[&'a [u8]],
+) -> Result<(), MpsKind> {
+    let [word, rest @ ..] = fields else {
+        return Err(MpsKind::Fields);
+    };
+    if let Some(bound) = value_bound_named(*word) {
+        let (name, column, number) = match rest {
+            [column, number] => (None, *column, *number),
+            [name, column, number] => (Some(*name), *column, *number),
+            _ => return Err(MpsKind::Fields),
+        };
+        let index = column_of(set, columns, name, column)?;
+        let value = number_within(number, MAX_BOUND)?;
+        let table = &mut columns.table;
+        table.items[index].bounds.set_value(bound, value);
+        return Ok(());
+    }
+    let bound = plain_bound_named(*word).ok_or(MpsKind::Fields)?;
+    let (name, column) = match rest {
+        [column] => (None, *column),
+        [name, column] | [name, column, _] => (Some(*name), *column),
+        _ => return Err(MpsKind::Fields),
+    };
+    let index = column_of(set, columns, name, column)?;
+    let table = &mut columns.table;
+    table.items[index].bounds.set_plain(bound);
+    Ok(())
+}
+
+// The number of the column that a line names, behind the set that it may name.
+fn column_of<'a>(
+    set: &mut SetName<'a>,
+    columns: &Columns<'a>,
+    name: Option<&'a [u8]>,
+    column: &[u8],
+) -> Result<usize, MpsKind>
+    ensures { IfOk result (λ k. k < vec_len columns.now.table.items) }
+{
+    if let Some(name) = name {
+        set.accept(name)?;
+    }
+    columns.table.find(column).ok_or(MpsKind::UnknownColumn)
+}

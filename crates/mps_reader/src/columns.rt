@@ -1,0 +1,153 @@
+// The section COLUMNS: markers of integer parts, and each column's numbers for its rows.
+ghost use Rattle.std.specs.Prelude.{◌≡◌, ◌≤◌, ◌<◌, IfOk, vec_len};
+
+use crate::MpsKind;
+use crate::bounds::Bounds;
+use crate::fault::{Fault, name_of, number_within};
+use crate::named::Named;
+use crate::rows::{RowRole, Rows};
+use int_model::Name;
+use std::alloc::Global;
+
+/// A column of the text, as far as it has been read.
+#[derive(Drop)]
+pub(crate) struct ColumnDraft {
+    pub(crate) name: Name,
+    pub(crate) cost: i64,
+    /// Whether the column began in an integer part.
+    pub(crate) is_marked: bool,
+    pub(crate) bounds: Bounds,
+}
+
+#[derive(Drop)]
+pub(crate) struct Columns<'a> {
+    pub(crate) table: Named<'a, ColumnDraft>,
+    in_integer_part: bool,
+    /// The column that the next line may continue.
+    current: Option<&'a [u8]>,
+    entries: usize,
+    ghost few: { vec_len table.items ≤ 1000 },
+}
+
+const MAX_COLUMNS: usize = 1_000;
+
+const MAX_ENTRIES: usize = 100_000;
+
+const MAX_ENTRY: u64 = 1_000_000_000;
+
+impl<'a> Columns<'a> {
+    pub(crate) fn new(alloc: Global) -> Self {
+        Columns {
+            table: Named::new(alloc),
+            in_integer_part: false,
+            current: None,
+            entries: 0,
+        }
+    }
+
+    /// The columns, in order.
+    pub(crate) fn into_items(self) -> Vec<ColumnDraft> {
+        let Columns {
+            table,
+            in_integer_part: _,
+            current: _,
+            entries: _,
+        } = self;
+        table.into_items()
+    }
+
+    pub(crate) fn take_line(
+        &mut self,
+        alloc: Global,
+        rows: &mut Rows<'a>,
+        fields: &[&'a [u8]],
+    ) -> Result<(), Fault> {
+        match fields {
+            [_, b"'MARKER'", ..] => Ok(self.take_marker(fields)?),
+            [column, row, number] => {
+                let column = self.column_named(alloc, *column)?;
+                self.take_pair(rows, column, *row, *number)
+            }
+            [column, row, number, second_row, second_number] => {
+                let column = self.column_named(alloc, *column)?;
+                self.take_pair(rows, column, *row, *number)?;
+                self.take_pair(rows, column, *second_row, *second_number)
+            }
+            _ => Err(Fault::Refused(MpsKind::Fields)),
+        }
+    }
+
+    // A marker begins or ends an integer part, and ends the column before it.
+    fn take_marker(&mut self, fields: &[&'a [u8]]) -> Result<(), MpsKind> {
+        match fields {
+            [_, _, b"'INTORG'"] => self.in_integer_part = true,
+            [_, _, b"'INTEND'"] => self.in_integer_part = false,
+            _ => return Err(MpsKind::Fields),
+        }
+        self.current = None;
+        Ok(())
+    }
+
+    // The number of the column that a line names: the current one, or a new one.
+    fn column_named(&mut self, alloc: Global, field: &'a [u8]) -> Result<u32, Fault>
+        ensures { IfOk result (λ k. k < vec_len self.new.table.items) }
+    {
+        let count = self.table.items.len();
+        if self.current == Some(field) && count > 0 {
+            return Ok((count - 1) as u32);
+        }
+        let name = name_of(alloc, field)?;
+        if self.table.find(field).is_some() {
+            return Err(Fault::Refused(MpsKind::Duplicate));
+        }
+        if count >= MAX_COLUMNS {
+            return Err(Fault::Refused(MpsKind::TooMany));
+        }
+        let draft = ColumnDraft {
+            name,
+            cost: 0,
+            is_marked: self.in_integer_part,
+            bounds: Bounds::new(),
+        };
+        self.table.push(field, draft)?;
+        self.current = Some(field);
+        Ok(count as u32)
+    }
+
+    // A number of a column for a row.
+    fn take_pair(
+        &mut self,
+        rows: &mut Rows<'a>,
+        column: u32,
+        row: &[u8],
+        number: &[u8],
+    ) -> Result<(), Fault>
+        requires { column < vec_len self.old.table.items }
+        ensures { vec_len self.new.table.items ≡ vec_len self.old.table.items }
+    {
+        let index = rows.table.find(row).ok_or(MpsKind::UnknownRow)?;
+        let table = &mut rows.table;
+        let draft = &mut table.items[index];
+        if draft.role == RowRole::Dropped {
+            return Ok(());
+        }
+        if draft.last_column == Some(column) {
+            return Err(Fault::Refused(MpsKind::Duplicate));
+        }
+        let value = number_within(number, MAX_ENTRY)?;
+        draft.last_column = Some(column);
+        if draft.role == RowRole::Objective {
+            let columns = &mut self.table;
+            columns.items[column as usize].cost = value;
+            return Ok(());
+        }
+        if value != 0 {
+            if self.entries >= MAX_ENTRIES {
+                return Err(Fault::Refused(MpsKind::TooMany));
+            }
+            self.entries += 1;
+            draft.terms.push((column, value))?;
+        }
+        Ok(())
+    }
+}

@@ -1,0 +1,167 @@
+// The model of a text, as far as its lines have been read.
+use crate::MpsKind;
+use crate::bounds::take_bound;
+use crate::columns::{ColumnDraft, Columns};
+use crate::fault::{Fault, SetName};
+use crate::header::{Headers, Section};
+use crate::rows::Rows;
+use crate::sides::Side;
+use int_model::{ColumnPart, Direction, Model, ModelError, Parts};
+use std::alloc::Global;
+
+/// Whether a line was the end of the text.
+#[derive(Clone, Copy, Debug, PartialEq, Eq)]
+pub(crate) enum Progress {
+    More,
+    Ended,
+}
+
+#[derive(Drop)]
+pub(crate) struct Draft<'a> {
+    headers: Headers,
+    direction: Option<Direction>,
+    rows: Rows<'a>,
+    columns: Columns<'a>,
+    rhs_set: SetName<'a>,
+    range_set: SetName<'a>,
+    bound_set: SetName<'a>,
+}
+
+fn direction_named(word: &[u8]) -> Result<Direction, MpsKind> {
+    match word {
+        b"MAX" | b"MAXIMIZE" => Ok(Direction::Max),
+        b"MIN" | b"MINIMIZE" => Ok(Direction::Min),
+        _ => Err(MpsKind::Fields),
+    }
+}
+
+impl<'a> Draft<'a> {
+    pub(crate) fn new(alloc: Global) -> Self {
+        Draft {
+            headers: Headers::new(),
+            direction: None,
+            rows: Rows::new(alloc),
+            columns: Columns::new(alloc),
+            rhs_set: SetName::new(),
+            range_set: SetName::new(),
+            bound_set: SetName::new(),
+        }
+    }
+
+    /// Takes a line by its fields. A line without fields is taken as it is.
+    pub(crate) fn take_line(
+        &mut self,
+        alloc: Global,
+        is_header: bool,
+        fields: &[&'a [u8]],
+    ) -> Result<Progress, Fault> {
+        if fields.is_empty() {
+            return Ok(Progress::More);
+        }
+        if is_header {
+            return Ok(self.take_header(fields)?);
+        }
+        self.take_data(alloc, fields)?;
+        Ok(Progress::More)
+    }
+
+    fn take_header(&mut self, fields: &[&'a [u8]]) -> Result<Progress, MpsKind> {
+        let [word, rest @ ..] = fields else {
+            return Ok(Progress::More);
+        };
+        // OBJSENSE has to give its value before the next header.
+        if self.headers.last == Some(Section::ObjSense) && self.direction.is_none() {
+            return Err(MpsKind::Section);
+        }
+        match (self.headers.enter(*word)?, rest) {
+            (Section::ObjSense, [value, ..]) => {
+                self.direction = Some(direction_named(*value)?);
+                Ok(Progress::More)
+            }
+            (Section::EndData, _) => Ok(Progress::Ended),
+            _ => Ok(Progress::More),
+        }
+    }
+
+    fn take_data(&mut self, alloc: Global, fields: &[&'a [u8]]) -> Result<(), Fault> {
+        match self.headers.last {
+            Some(Section::ObjSense) => Ok(self.take_direction(fields)?),
+            Some(Section::Rows) => self.rows.take_line(alloc, fields),
+            Some(Section::Columns) => self.columns.take_line(alloc, &mut self.rows, fields),
+            Some(Section::Rhs) => {
+                Ok(Side::Rhs.take_line(&mut self.rhs_set, &mut self.rows, fields)?)
+            }
+            Some(Section::Ranges) => {
+                Ok(Side::Range.take_line(&mut self.range_set, &mut self.rows, fields)?)
+            }
+            Some(Section::Bounds) => {
+                Ok(take_bound(&mut self.bound_set, &mut self.columns, fields)?)
+            }
+            None | Some(Section::Name | Section::EndData) => {
+                Err(Fault::Refused(MpsKind::Section))
+            }
+        }
+    }
+
+    fn take_direction(&mut self, fields: &[&'a [u8]]) -> Result<(), MpsKind> {
+        match (self.direction, fields) {
+            (None, [value, ..]) => {
+                self.direction = Some(direction_named(*value)?);
+                Ok(())
+            }
+            _ => Err(MpsKind::Section),
+        }
+    }
+
+    /// The model, once the text has ended.
+    pub(crate) fn into_model(self, alloc: Global) -> Result<Model, Fault> {
+        let Draft {
+            headers: _,
+            direction,
+            rows,
+            columns,
+            rhs_set: _,
+            range_set: _,
+            bound_set: _,
+        } = self;
+        let columns = column_parts(alloc, columns)?;
+        let (constant, rows) = rows.into_rows(alloc)?;
+        let parts = Parts {
+            columns,
+            rows,
+            constant,
+            direction: direction.unwrap_or(Direction::Min),
+        };
+        Model::build(alloc, parts).map_err(fault_of)
+    }
+}
+
+fn column_parts(alloc: Global, columns: Columns) -> Result<Vec<ColumnPart>, Fault> {
+    let mut parts = Vec::new(alloc);
+    for draft in columns.into_items() {
+        parts.push(column_part(draft)?)?;
+    }
+    Ok(parts)
+}
+
+fn column_part(draft: ColumnDraft) -> Result<ColumnPart, MpsKind> {
+    let (low, high) = draft.bounds.sides(draft.is_marked)?;
+    Ok(ColumnPart {
+        name: draft.name,
+        cost: draft.cost,
+        low,
+        high,
+        implied: draft.bounds.is_implied(draft.is_marked),
+    })
+}
+
+// Why parts made no model, in the words of a text.
+fn fault_of(error: ModelError) -> Fault {
+    match error {
+        ModelError::TooMany(_) => Fault::Refused(MpsKind::TooMany),
+        ModelError::Unbounded(_) => Fault::Refused(MpsKind::Unbounded),
+        ModelError::BadTerm(_) | ModelError::SameName(_) => Fault::Refused(MpsKind::Duplicate),
+        ModelError::Magnitude(_) => Fault::Refused(MpsKind::Magnitude),
+        ModelError::Memory => Fault::Memory,
+    }
+}

@@ -1,0 +1,100 @@
+// Why a line can't be taken, and the checks that more than one section makes.
+ghost use Rattle.std.specs.Prelude.{◌≡◌, ◌≤◌, IfOk, unsigned_abs};
+ghost use Rattle.mps_reader.specs.declared.fault.Fault.TheVariants as fault;
+
+use crate::{MpsError, MpsKind};
+use int_model::Name;
+use num_text::{NumberError, read_number};
+use std::alloc::{AllocError, AllocFailed, Global};
+
+/// Why a line can't be taken.
+#[derive(Clone, Copy, Debug, PartialEq, Eq)]
+pub(crate) enum Fault {
+    Refused(MpsKind),
+    Memory,
+}
+
+impl Fault {
+    /// The error of the whole text, where the fault came at this line.
+    pub(crate) fn at(self, line: u32) -> MpsError {
+        match self {
+            Fault::Refused(kind) => MpsError::Line { line, kind },
+            Fault::Memory => MpsError::Memory,
+        }
+    }
+}
+
+impl From<MpsKind> for Fault {
+    ghost from_gives = { λ kind f. f ≡ fault.Refused kind };
+
+    fn from(kind: MpsKind) -> Self {
+        Fault::Refused(kind)
+    }
+}
+
+impl From<AllocError> for Fault {
+    ghost from_gives = { λ _ f. f ≡ fault.Memory };
+
+    fn from(_: AllocError) -> Self {
+        Fault::Memory
+    }
+}
+
+impl<T: Drop> From<AllocFailed<T>> for Fault {
+    ghost from_gives = { λ _ f. f ≡ fault.Memory };
+
+    fn from(_: AllocFailed<T>) -> Self {
+        Fault::Memory
+    }
+}
+
+/// The greatest length of a name in bytes.
+const MAX_NAME: usize = 255;
+
+/// A field as the name of a row or a column.
+pub(crate) fn name_of(alloc: Global, field: &[u8]) -> Result<Name, Fault> {
+    if field.is_empty() || field.len() > MAX_NAME {
+        return Err(Fault::Refused(MpsKind::LongName));
+    }
+    Ok(Name::from_vec(field.to_vec(alloc)?))
+}
+
+/// The whole number that a field spells, of at most this absolute value.
+pub(crate) fn number_within(field: &[u8], most: u64) -> Result<i64, MpsKind>
+    ensures { IfOk result (λ z. unsigned_abs z ≤ most) }
+{
+    match read_number(field) {
+        Ok(value) => {
+            if value.unsigned_abs() <= most {
+                Ok(value)
+            } else {
+                Err(MpsKind::Magnitude)
+            }
+        }
+        Err(NumberError::NotNumber) => Err(MpsKind::Number),
+        Err(NumberError::Fraction) => Err(MpsKind::Fraction),
+        Err(NumberError::TooWide) => Err(MpsKind::Magnitude),
+    }
+}
+
+/// The name of a section's set, which is the first one given there.
+#[derive(Clone, Copy, Debug, PartialEq, Eq)]
+pub(crate) struct SetName<'a> {
+    first: Option<&'a [u8]>,
+}
+
+impl<'a> SetName<'a> {
+    pub(crate) fn new() -> Self {
+        SetName { first: None }
+    }
+
+    /// Notes the set that a line names. A second one is refused.
+    pub(crate) fn accept(&mut self, name: &'a [u8]) -> Result<(), MpsKind> {
+        let first = self.first.unwrap_or(name);
+        if first != name {
+            return Err(MpsKind::SecondSet);
+        }
+        self.first = Some(first);
+        Ok(())
+    }
+}

@@ -1,0 +1,101 @@
+//! Reads integer models from MPS text.
+//!
+//! The profile is the usual MPS layout with the sections NAME, OBJSENSE, ROWS, COLUMNS, RHS, RANGES, BOUNDS and
+//! ENDATA, for models whose columns are all integer and bounded. Fields are runs of bytes that are no blanks, in
+//! fixed and free layout alike. A text is read once, line by line: each line either is taken into the draft of the
+//! model or is the first one that offends, and then its first offence is told.
+#![tactic(auto)]
+
+ghost use Rattle.std.specs.Prelude.{◌≤◌, ◌+◌, length};
+
+mod bounds;
+mod columns;
+mod draft;
+mod fault;
+mod header;
+mod named;
+mod rows;
+mod sides;
+
+use crate::draft::{Draft, Progress};
+use int_model::Model;
+use num_text::{Lines, is_blank, read_fields};
+use std::alloc::Global;
+use thiserror::Error;
+
+/// Why a line of a model text is refused.
+#[derive(Clone, Copy, Debug, PartialEq, Eq)]
+pub enum MpsKind {
+    /// A header that is unknown, repeated or out of order, or a line where no data may stand.
+    Section,
+    /// The text has no ENDATA line.
+    NoEnd,
+    /// A wrong number of fields, or a word that may not stand there.
+    Fields,
+    /// A row that ROWS does not name.
+    UnknownRow,
+    /// A column that COLUMNS does not name.
+    UnknownColumn,
+    /// A name, or a number for a row, that was given already.
+    Duplicate,
+    /// A name of more than 255 bytes.
+    LongName,
+    /// A column that is not integer.
+    Continuous,
+    /// A field that is no number.
+    Number,
+    /// A number that is not whole.
+    Fraction,
+    /// A number beyond its limit.
+    Magnitude,
+    /// A second set of right-hand sides, ranges or bounds.
+    SecondSet,
+    /// More rows, columns or entries than a model may have.
+    TooMany,
+    /// A column without a finite bound on some side.
+    Unbounded,
+    /// An upper bound below 0 beside a lower bound that no line gives.
+    NegativeUpper,
+}
+
+/// Why a text has no model.
+#[derive(Clone, Copy, Debug, PartialEq, Eq, Error)]
+pub enum MpsError {
+    /// The first line that offends, counted from 1, and its first offence.
+    #[error("line {line} of the model is refused: {kind:?}")]
+    Line { line: u32, kind: MpsKind },
+    /// No memory was left.
+    #[error("out of memory")]
+    Memory,
+}
+
+/// The greatest length of a text in bytes.
+pub const MAX_BYTES: usize = 16_777_216;
+
+/// The model of a text of at most 16,777,216 bytes, or the first line that offends.
+pub fn read_model(alloc: Global, bytes: &[u8]) -> Result<Model, MpsError>
+    requires { length bytes.now ≤ 16777216 }
+{
+    let mut draft = Draft::new(alloc);
+    let mut fields = Vec::new(alloc);
+    let mut number: u32 = 0;
+    for line in Lines::new(bytes) {
+        number += 1;
+        let [first, ..] = line else {
+            continue;
+        };
+        if *first == b'*' {
+            continue;
+        }
+        read_fields(line, &mut fields).map_err(|_| MpsError::Memory)?;
+        match draft.take_line(alloc, !is_blank(*first), &fields) {
+            Ok(Progress::More) => {}
+            Ok(Progress::Ended) => return draft.into_model(alloc).map_err(|fault| fault.at(number)),
+            Err(fault) => return Err(fault.at(number)),
+        }
+    }
+    Err(MpsError::Line {
+        line: number + 1,
+        kind: MpsKind::NoEnd,
+    })
+}

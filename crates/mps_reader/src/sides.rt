@@ -1,0 +1,80 @@
+// The sections RHS and RANGES: numbers for rows, perhaps behind the name of a set.
+ghost use Rattle.std.specs.Prelude.{◌≤◌, IfOk, unsigned_abs};
+
+use crate::MpsKind;
+use crate::fault::{Fault, SetName, number_within};
+use crate::rows::{RowDraft, RowRole, Rows};
+
+const MAX_SIDE: u64 = 1_000_000_000_000_000_000;
+
+const MAX_CONSTANT: u64 = 1_000_000_000_000_000;
+
+/// Which numbers of the rows a section gives.
+#[derive(Clone, Copy, Debug, PartialEq, Eq)]
+pub(crate) enum Side {
+    Rhs,
+    Range,
+}
+
+impl Side {
+    // A number for a row, where the section reads it.
+    fn take_number(self, draft: &mut RowDraft, number: &[u8]) -> Result<(), MpsKind> {
+        match (self, draft.role) {
+            (_, RowRole::Dropped) | (Side::Range, RowRole::Objective) => Ok(()),
+            (Side::Rhs, RowRole::Objective) => {
+                draft.rhs = Some(given(draft.rhs, number, MAX_CONSTANT)?);
+                Ok(())
+            }
+            (Side::Rhs, RowRole::Kept(_)) => {
+                draft.rhs = Some(given(draft.rhs, number, MAX_SIDE)?);
+                Ok(())
+            }
+            (Side::Range, RowRole::Kept(_)) => {
+                draft.range = Some(given(draft.range, number, MAX_SIDE)?);
+                Ok(())
+            }
+        }
+    }
+
+    fn take_pair(self, rows: &mut Rows, row: &[u8], number: &[u8]) -> Result<(), MpsKind> {
+        let index = rows.table.find(row).ok_or(MpsKind::UnknownRow)?;
+        let table = &mut rows.table;
+        self.take_number(&mut table.items[index], number)
+    }
+
+    /// Takes a line of the section: one or two pairs, perhaps behind the name of a set.
+    pub(crate) fn take_line<'a>(
+        self,
+        set: &mut SetName<'a>,
+        rows: &mut Rows,
+        fields: &[&'a [u8]],
+    ) -> Result<(), MpsKind> {
+        match fields {
+            [row, number] => self.take_pair(rows, *row, *number),
+            [name, row, number] => {
+                set.accept(*name)?;
+                self.take_pair(rows, *row, *number)
+            }
+            [row, number, second_row, second_number] => {
+                self.take_pair(rows, *row, *number)?;
+                self.take_pair(rows, *second_row, *second_number)
+            }
+            [name, row, number, second_row, second_number] => {
+                set.accept(*name)?;
+                self.take_pair(rows, *row, *number)?;
+                self.take_pair(rows, *second_row, *second_number)
+            }
+            _ => Err(MpsKind::Fields),
+        }
+    }
+}
+
+// A number where none was given before.
+fn given(before: Option<i64>, number: &[u8], most: u64) -> Result<i64, MpsKind>
+    ensures { IfOk result (λ z. unsigned_abs z ≤ most) }
+{
+    if before.is_some() {
+        return Err(MpsKind::Duplicate);
+    }
+    number_within(number, most)
+}
