@@ -1,5 +1,5 @@
 -- Worked lines, fields and words, by computing.
-use Rattle.std.specs.Prelude.{◌≡◌, true, false, [], ◌∷◌, Some, None, refl, codes}
+use Rattle.std.specs.Prelude.{◌≡◌, true, false, [], ◌∷◌, Some, refl, codes}
 use Rattle.num_text.specs.Lines.{lines_of, fields_of}
 use Rattle.num_text.specs.Words.{is_read, is_one_of, last_of, line}
 

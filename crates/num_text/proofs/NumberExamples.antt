@@ -1,5 +1,5 @@
 -- Worked number texts, by computing.
-use Rattle.std.specs.Prelude.{◌≡◌, true, false, pos, negsuc, [], ◌∷◌, Ok, Err, refl, codes}
+use Rattle.std.specs.Prelude.{◌≡◌, true, false, pos, negsuc, [], Ok, Err, refl, codes}
 use Rattle.std.specs.Fmt.{digits}
 use Rattle.num_text.specs.NumberText.{number_of, integer_text, is_canonical}
 use Rattle.num_text.specs.declared.number.NumberError.TheVariants.{NotNumber, Fraction, TooWide}
