@@ -11,6 +11,7 @@ use Rattle.num_text.specs.NumberText.{digits_number, with_sign, fitting, unless_
 use Rattle.num_text.specs.Held.{held}
 use Rattle.num_text.proofs.NumberLaws.{and_parts, digits_number-append, digits_number-lt, too_wide, whole_of-pos, whole_of-neg}
 
+-- the digits at the back
 list_all-back : (xs ys : List ℕ) → list_all is_ascii_digit (xs ++ ys) ≡ true → list_all is_ascii_digit ys ≡ true
 list_all-back [] ys h = h
 list_all-back (x ∷ xs) ys h = list_all-back xs ys (and_parts (is_ascii_digit x) (list_all is_ascii_digit (xs ++ ys)) h).1
@@ -25,15 +26,18 @@ whole_of-below negative ys k h long =
     let width : 10 ^ length ys ≤ 10 ^ k = pow-le-pow_right {n = 10} (omega arith) long in
     whole_of-neg negative (digits_number ys) 0 (digits_number ys) k (omega (arith, zero-mul (10 ^ k))) (omega (arith, digits_number-lt ys h))
 
+-- the point between two runs that are the digits
 cut_at : (negative : Bool) (whole behind front back : List ℕ) (shift : ℤ) → list_all is_ascii_digit (whole ++ behind) ≡ true → front ++ back ≡ whole ++ behind → shift ≡ neg_ℤ (pos (length back)) → whole_of negative (digits_number (whole ++ behind)) shift ≡ unless_fraction negative (digits_number front) (digits_number back)
 cut_at negative whole behind front back shift h e k =
     let digits : list_all is_ascii_digit (front ++ back) ≡ true = ap (list_all is_ascii_digit) e ∙ h in
     ap (λ s. whole_of negative (digits_number (whole ++ behind)) s) k ∙ ap (λ l. whole_of negative (digits_number l) (neg_ℤ (pos (length back)))) (sym e) ∙ whole_of-cut negative front back digits
 
+-- the point moves to the back, and digits stand there
 pub whole_of-within : (negative : Bool) (whole behind : List ℕ) (e : ℕ) → list_all is_ascii_digit (whole ++ behind) ≡ true → e ≤ length behind → whole_of negative (digits_number (whole ++ behind)) (with_sign false e -ℤ pos (length behind)) ≡ unless_fraction negative (digits_number (whole ++ take e behind)) (digits_number (drop e behind))
 whole_of-within negative whole behind e h within =
     cut_at negative whole behind (whole ++ take e behind) (drop e behind) _ h (rw (append_assoc, take-append-drop) refl) (omega (arith, ints, length-drop e behind))
 
+-- the point moves to the front
 pub whole_of-front : (negative : Bool) (whole behind : List ℕ) (e p : ℕ) → list_all is_ascii_digit (whole ++ behind) ≡ true → p ≡ held e → length whole < 2 ^ 64 → whole_of negative (digits_number (whole ++ behind)) (with_sign true e -ℤ pos (length behind)) ≡ unless_fraction negative (digits_number (take (length whole - p) whole)) (digits_number (drop (length whole - p) whole ++ behind))
 whole_of-front negative whole behind e p h is fits =
     elim (cases_lt (length whole) e) [
@@ -69,16 +73,20 @@ zeros_enough negative (suc n) e h =
     let product : 1 * 10 ^ 20 ≤ suc n * 10 ^ e = mul-le 1 (10 ^ 20) (suc n) (10 ^ e) (omega arith) power in
     too_wide negative (suc n * 10 ^ 20) (omega arith) ∙ sym (too_wide negative (suc n * 10 ^ e) (omega arith))
 
+-- the zeros that are counted up to 20
 zeros_held : (negative : Bool) (n z k : ℕ) → (z ≡ k) ⊎ ((z ≡ 20) × (20 ≤ k)) → fitting negative (n * 10 ^ k) ≡ fitting negative (n * 10 ^ z)
 zeros_held negative n z k (inl same) = rw same refl
 zeros_held negative n z k (inr most) = rw most.0 (sym (zeros_enough negative n k most.1))
 
+-- a count up to 20 is exact, or 20 and below the count
 held_zeros : (z : ℕ) → (min z 20 ≡ z) ⊎ ((min z 20 ≡ 20) × (20 ≤ z))
 held_zeros z = elim (cases_lt 20 z) [ inl more ↦ inr (omega arith, omega arith) | inr less ↦ inl (omega arith) ]
 
+-- the shift of a power above the digits behind the point
 shift_up : (e n : ℕ) → n ≤ e → with_sign false e -ℤ pos n ≡ pos (e - n)
 shift_up e n h = omega (arith, ints)
 
+-- the point moves behind the last digit
 pub whole_of-back : (negative : Bool) (whole behind digits : List ℕ) (p : ℕ) → list_all is_ascii_digit digits ≡ true → p ≡ held (digits_number digits) → length behind + length digits < 2 ^ 64 → length behind < p → whole_of negative (digits_number (whole ++ behind)) (with_sign false (digits_number digits) -ℤ pos (length behind)) ≡ fitting negative (digits_number (whole ++ behind) * 10 ^ min (p - length behind) 20)
 whole_of-back negative whole behind digits p h is fits past =
     let above : length behind ≤ digits_number digits = omega arith in

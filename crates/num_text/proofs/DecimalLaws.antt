@@ -7,6 +7,7 @@ use Rattle.std.proofs.lemmas.List.{drop-set}
 use Rattle.std.proofs.lemmas.Nat.{div_below}
 use Rattle.std.proofs.Math.Nat.{pow-suc, pow-le-pow_right}
 
+-- a digit is put before those at the end
 drop-set_before : (text : List ℕ) (start digit : ℕ) → 1 ≤ start → start ≤ length text → drop (start - 1) (set text (start - 1) digit) ≡ digit ∷ drop start text
 drop-set_before text start digit low high = drop-set text (start - 1) digit (omega arith) ∙ ap (λ i. digit ∷ drop i text) (omega arith)
 
@@ -27,6 +28,7 @@ decimal_last number left start digit text less low high before is =
     ∙ ap (λ l. l ++ drop start text) (sym (decimal_digit left less))
     ∙ sym before
 
+-- there is room for the digits that are left
 pub small_more : (left start : ℕ) → 10 ≤ left → left < 10 ^ (start - 1) → (3 ≤ start) × (left / 10 < 10 ^ (start - 1 - 1))
 small_more left start more small =
     elim (cases_lt 2 start) [

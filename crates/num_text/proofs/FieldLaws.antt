@@ -3,6 +3,7 @@ use Rattle.std.proofs.Common.{◌≡◌, ℕ, cond, true, false, not, ◌||◌, 
 use Rattle.std.specs.List.{slice_split, onto_first, list_any}
 use Rattle.num_text.specs.Lines.{is_blank, is_nonempty, fields_of}
 
+-- a byte that isn't blank makes a field
 first_is_kept : (b : ℕ) (parts : List (List ℕ)) → is_nonempty (filter is_nonempty (onto_first b parts)) ≡ true
 first_is_kept b [] = refl
 first_is_kept b (part ∷ parts) = refl

@@ -1,8 +1,9 @@
-pub mod LineLaws
+pub mod CutLaws
+pub mod DecimalLaws
 pub mod FieldLaws
+pub mod LineExamples
+pub mod LineLaws
 pub mod NumberExamples
 pub mod NumberLaws
-pub mod CutLaws
 pub mod PartLaws
-pub mod DecimalLaws
 pub mod TextLaws

@@ -14,9 +14,11 @@ onto_last p l (b ∷ bytes) = elim (p b) as (λ t. without_last_empty (l ∷ con
   | false ↦ elim (slice_split p bytes) as (λ parts. without_last_empty (l ∷ onto_first b parts) ≡ l ∷ without_last_empty (onto_first b parts)) [ [] ↦ refl | part ∷ parts ↦ refl ]
 ]
 
+-- the place that is found
 position-Some : (p : ℕ → Bool) (bytes : List ℕ) (end : ℕ) → position p bytes ≡ Some end → (end ≡ position_or_len p bytes) × (end < length bytes)
 position-Some p bytes end e = grind (arith, nat_tests)
 
+-- no place is found
 position-None : (p : ℕ → Bool) (bytes : List ℕ) → position p bytes ≡ None → length bytes ≤ position_or_len p bytes
 position-None p bytes e = grind (arith, nat_tests)
 
@@ -26,6 +28,7 @@ lines_of-feed bytes end e =
     let found = position-Some is_line_feed bytes end e in
     rw found.0 (ap without_last_empty (slice_split_first is_line_feed bytes 0 (omega (arith, found.1))) ∙ onto_last is_line_feed (take (position_or_len is_line_feed bytes) bytes) (drop (position_or_len is_line_feed bytes + 1) bytes))
 
+-- a last line with a byte stays
 nonempty_line : (l : List ℕ) → 0 < length l → without_last_empty (l ∷ []) ≡ l ∷ []
 nonempty_line [] h = absurd (omega arith)
 nonempty_line (b ∷ l) h = refl
@@ -36,6 +39,7 @@ lines_of-last bytes e some =
     let ends : length bytes ≤ position_or_len is_line_feed bytes = position-None is_line_feed bytes e in
     ap without_last_empty (slice_split_none is_line_feed bytes (λ k d h. fails_before_first is_line_feed bytes k d (omega arith))) ∙ nonempty_line bytes some
 
+-- a byte more adds one line at most
 one_byte_more : (b : ℕ) (parts : List (List ℕ)) → length (without_last_empty (onto_first b parts)) ≤ suc (length (without_last_empty parts))
 one_byte_more b [] = omega arith
 one_byte_more b (part ∷ []) = omega arith

@@ -1,8 +1,7 @@
 -- Worked number texts, by computing.
-use Rattle.std.specs.Prelude.{◌≡◌, pos, negsuc, [], ◌∷◌, Ok, Err, refl, codes}
+use Rattle.std.specs.Prelude.{◌≡◌, true, false, pos, negsuc, [], Ok, Err, refl, codes}
 use Rattle.std.specs.Fmt.{digits}
-use Rattle.num_text.specs.Lines.{lines_of, fields_of}
-use Rattle.num_text.specs.NumberText.{number_of, integer_text}
+use Rattle.num_text.specs.NumberText.{number_of, integer_text, is_canonical}
 use Rattle.num_text.specs.declared.number.NumberError.TheVariants.{NotNumber, Fraction, TooWide}
 
 hundred : number_of (codes "1e2") ≡ Ok (pos 100)
@@ -57,14 +56,44 @@ text : integer_text (negsuc 41) ≡ codes "-42"
 unfolding digits
 text = refl
 
-two_lines : lines_of (10 ∷ 97 ∷ 10 ∷ 98 ∷ []) ≡ [] ∷ codes "a" ∷ codes "b" ∷ []
-two_lines = refl
+-- digits alone, with no leading zero
+zero_text : is_canonical (codes "0") ≡ true
+zero_text = refl
 
-last_feed : lines_of (97 ∷ 10 ∷ []) ≡ codes "a" ∷ []
-last_feed = refl
+negative_text : is_canonical (codes "-70") ≡ true
+negative_text = refl
 
-three_fields : fields_of (codes " UP  b x ") ≡ codes "UP" ∷ codes "b" ∷ codes "x" ∷ []
-three_fields = refl
+leading_zero : is_canonical (codes "07") ≡ false
+leading_zero = refl
 
-long_line : fields_of (codes "  x  cost  -3 cap 2 y cost -2 cap 1 z cost") ≡ codes "x" ∷ codes "cost" ∷ codes "-3" ∷ codes "cap" ∷ codes "2" ∷ codes "y" ∷ codes "cost" ∷ codes "-2" ∷ codes "cap" ∷ codes "1" ∷ codes "z" ∷ codes "cost" ∷ []
-long_line = refl
+negative_zero : is_canonical (codes "-0") ≡ false
+negative_zero = refl
+
+plus_sign : is_canonical (codes "+7") ≡ false
+plus_sign = refl
+
+no_digits : is_canonical (codes "-") ≡ false
+no_digits = refl
+
+-- the shift counts the digits behind the point, and the exponent moves the point both ways
+shifted_up : number_of (codes "1.25e3") ≡ Ok (pos 1250)
+shifted_up = refl
+
+shifted_down : number_of (codes "-2500.0E-2") ≡ Ok (negsuc 24)
+shifted_down = refl
+
+-- a fraction comes before the width
+wide_fraction : number_of (codes "9223372036854775808.5") ≡ Err Fraction
+wide_fraction = refl
+
+sign_alone : number_of (codes "+") ≡ Err NotNumber
+sign_alone = refl
+
+no_mantissa : number_of (codes "e5") ≡ Err NotNumber
+no_mantissa = refl
+
+two_exponents : number_of (codes "1e2e3") ≡ Err NotNumber
+two_exponents = refl
+
+blank_behind : number_of (codes "1 ") ≡ Err NotNumber
+blank_behind = refl

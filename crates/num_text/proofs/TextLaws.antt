@@ -41,9 +41,11 @@ module _ (p : ℕ → Bool) (no_digit : (b : ℕ) → is_ascii_digit b ≡ true 
       let rest = none_passes text split.1 in
       (rw (no_digit b split.0) rest.0, rw (no_digit b split.0) (rw rest.1 (omega arith)))
 
+-- digits are no exponent marks
 no_mark : (b : ℕ) → is_ascii_digit b ≡ true → is_exponent_mark b ≡ false
 no_mark b h = grind (arith, nat_tests)
 
+-- digits are no points
 no_point : (b : ℕ) → is_ascii_digit b ≡ true → is_point b ≡ false
 no_point b h = grind (arith, nat_tests)
 
@@ -67,9 +69,11 @@ number_of-digits text digits e h =
 
 -- ---- the decimal text of a number
 
+-- below 2^63 the number fits
 fits : (negative : Bool) (n : ℕ) → n < 2 ^ 63 → fitting negative n ≡ Ok (with_sign negative n)
 fits negative n h = grind (arith, nat_tests)
 
+-- what fits is below 2^63
 fitted : (negative : Bool) (n : ℕ) (z : ℤ) → fitting negative n ≡ Ok z → (n < 2 ^ 63) × (z ≡ with_sign negative n)
 fitted negative n z e =
     elim (cases_lt n (2 ^ 63)) [
@@ -81,25 +85,31 @@ fitted negative n z e =
           absurd (cc)
     ]
 
+-- a run of digits with one at least
 some_digits : (text : List ℕ) → IsAllDigits text → 0 < length text → is_digits text ≡ true
 some_digits [] h some = absurd (omega arith)
 some_digits (b ∷ text) h some = h
 
+-- digits are no signs
 no_sign : (b : ℕ) → is_ascii_digit b ≡ true → (nat_eq b 43 ≡ false) × (nat_eq b 45 ≡ false)
 no_sign b h = (grind (arith, nat_tests), grind (arith, nat_tests))
 
+-- digits have no sign
 unsigned : (text : List ℕ) → is_digits text ≡ true → (behind_sign text ≡ text) × (begins_with_minus text ≡ false)
 unsigned [] h = absurd (cc)
 unsigned (b ∷ text) h =
     let none = no_sign b (and_parts (is_ascii_digit b) (list_all is_ascii_digit text) h).0 in
     (rw (none.0, none.1) refl, none.1)
 
+-- digits are read as their number
 read_digits : (text : List ℕ) → is_digits text ≡ true → number_of text ≡ fitting false (digits_number text)
 read_digits text h = number_of-digits text text (unsigned text h).0 h ∙ ap (λ t. fitting t (digits_number text)) (unsigned text h).1
 
+-- digits behind a minus are read as the negative number
 read_minus : (text : List ℕ) → is_digits text ≡ true → number_of (45 ∷ text) ≡ fitting true (digits_number text)
 read_minus text h = number_of-digits (45 ∷ text) text refl h
 
+-- a decimal text is digits
 decimal_digits : (n : ℕ) → n < 2 ^ 64 → is_digits (decimal n) ≡ true
 decimal_digits n h = some_digits (decimal n) (digits_decimal own n h) (decimal_nonempty n h)
 
@@ -115,6 +125,7 @@ record IsPlain (text : List ℕ) : Type 0 where
   some : 0 < length text
   first : get_or text 0 0 ≡ 48 → length text ≡ 1
 
+-- canonical digits have no leading zero
 canonical_plain : (text : List ℕ) → is_canonical_digits text ≡ true → IsPlain text
 canonical_plain [] h = absurd (cc)
 canonical_plain (b ∷ []) h = record { digits = rw h refl; some = omega arith; first = λ e. refl }
@@ -125,6 +136,7 @@ canonical_plain (b ∷ c ∷ text) h =
     zero_first : (b : ℕ) → b ≡ 48 → not (nat_eq b 48) ≡ true → ⊥
     zero_first b e h = grind (arith, nat_tests)
 
+-- digits with no leading zero are canonical
 plain_canonical : (text : List ℕ) → IsPlain text → is_canonical_digits text ≡ true
 plain_canonical [] h = absurd (omega (arith, h.some))
 plain_canonical (b ∷ []) h = (and_parts (is_ascii_digit b) true h.digits).0
@@ -134,6 +146,7 @@ plain_canonical (b ∷ c ∷ text) h =
       | inr other ↦ rw other.0 h.digits
     ]
 
+-- a decimal text has no leading zero
 decimal_plain : (n : ℕ) → n < 2 ^ 64 → IsPlain (decimal n)
 decimal_plain zero h = rw (decimal_digit 0 (omega arith)) (record { digits = refl; some = omega arith; first = λ e. refl })
 decimal_plain (suc n) h = record {
@@ -142,6 +155,7 @@ decimal_plain (suc n) h = record {
   first = λ e. absurd (omega (arith, first_decimal (suc n) (omega arith) h));
 }
 
+-- digits with no minus
 canonical_digits : (text : List ℕ) → is_digits text ≡ true → is_canonical text ≡ is_canonical_digits text
 canonical_digits [] h = refl
 canonical_digits (b ∷ text) h = rw (no_sign b (and_parts (is_ascii_digit b) (list_all is_ascii_digit text) h).0).1 refl
@@ -150,11 +164,13 @@ not_true : (b : Bool) → (b ≡ true → ⊥) → b ≡ false
 not_true true h = absurd (h refl)
 not_true false h = refl
 
+-- a text that begins above 0 is not 0
 no_zero : (text : List ℕ) → 48 < get_or text 0 0 → bytes_eq text (codes "0") ≡ false
 no_zero text h = not_true (bytes_eq text (codes "0")) (λ e.
     let is : text ≡ 48 ∷ [] = (bytes_eq-Decides text (codes "0")).0 e in
     absurd (omega (arith, ap (λ l. get_or l 0 0) is)))
 
+-- what is written is canonical
 is_canonical-integer_text : (z : ℤ) → unsigned_abs z < 2 ^ 64 → is_canonical (integer_text z) ≡ true
 is_canonical-integer_text (pos n) h = canonical_digits (decimal n) (decimal_digits n h) ∙ plain_canonical (decimal n) (decimal_plain n h)
 is_canonical-integer_text (negsuc n) h = rw (plain_canonical (decimal (suc n)) (decimal_plain (suc n) h), no_zero (decimal (suc n)) (first_decimal (suc n) (omega arith) h)) refl
@@ -163,6 +179,7 @@ is_canonical-integer_text (negsuc n) h = rw (plain_canonical (decimal (suc n)) (
 decimal-number : (text : List ℕ) → IsPlain text → digits_number text < 2 ^ 63 → decimal (digits_number text) ≡ text
 decimal-number text h less = decimal-digits_value own text h.digits h.some h.first (omega arith)
 
+-- the text of a negative number
 minus_only : (text : List ℕ) (n : ℕ) (z : ℤ) → decimal n ≡ text → not (bytes_eq text (codes "0")) ≡ true → z ≡ with_sign true n → 45 ∷ text ≡ integer_text z
 minus_only text zero z is some e =
     let zero_text : text ≡ 48 ∷ [] = sym is ∙ decimal_digit 0 (omega arith) in
@@ -186,6 +203,7 @@ only_text z (b ∷ text) h e =
           rw value.1 (sym (decimal-number (b ∷ text) plain value.0))
     ]
 
+-- the decimal text of a number is its one canonical text
 pub decimal_text : (z : ℤ) → unsigned_abs z < 2 ^ 64 → IsDecimalTextOf z (integer_text z)
 decimal_text z h = record {
   canonical = is_canonical-integer_text z h;

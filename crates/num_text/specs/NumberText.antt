@@ -99,7 +99,7 @@ is_canonical (b ∷ text) = if nat_eq b 45 then is_canonical_digits text && not 
 abbrev pub integer_text : ℤ → List ℕ
 integer_text z = signed_decimal z
 
--- text is the one canonical text that is read as z, which every z within the range of numbers has
+-- text is canonical and is read as z where z lies in the range, and no other canonical text is
 pub record IsDecimalTextOf (z : ℤ) (text : List ℕ) : Type 0 where
   pub canonical : is_canonical text ≡ true
   pub meaning : unsigned_abs z < 2 ^ 63 → number_of text ≡ Ok z

@@ -1,5 +1,6 @@
-ghost use Rattle.std.specs.Prelude.{◌≡◌, length};
+ghost use Rattle.std.specs.Prelude.{◌≡◌, length, count_by};
 ghost use Rattle.num_text.specs.Lines.{lines_of};
+ghost use Rattle.num_text.specs.Words as words;
 
 use super::*;
 use std::alloc::{AllocError, Global};
@@ -10,6 +11,13 @@ fn line_count(text: &[u8]) -> usize
     ensures { result ≡ length (lines_of text.now) }
 {
     Lines::new(text).count()
+}
+
+// A caller knows what a chain over the lines gives.
+fn read_count(text: &[u8]) -> usize
+    ensures { result ≡ count_by words.is_read (lines_of text.now) }
+{
+    Lines::new(text).filter(|line| is_read(*line)).count()
 }
 
 // The lines, each with a bar behind it.
@@ -65,5 +73,6 @@ fn lines_that_are_read(rt: HostRuntime) {
         assert_eq!(rt; has_fields(line), has);
         assert_eq!(rt; is_read(line), is);
     }
+    assert_eq!(rt; read_count(b"* a\n\n b\nc"), 2);
     assert!(rt; is_blank(b'\t') && !is_blank(b'\n'));
 }
