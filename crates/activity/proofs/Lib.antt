@@ -1,1 +1,2 @@
-mod SumLemmas
+pub mod RowSumLaws
+pub mod SumLemmas
