@@ -1,5 +1,5 @@
 -- Worked examples, by computing.
-use Rattle.std.specs.Prelude.{◌≡◌, ℤ, pos, negsuc, List, [], ◌∷◌, Some, None, refl, true, false}
+use Rattle.std.specs.Prelude.{◌≡◌, pos, negsuc, [], ◌∷◌, Some, None, refl, true, false}
 use Rattle.std.proofs.Common.{arith, rules}
 use Rattle.std.proofs.lemmas.Int.{ints}
 use Rattle.int_model.specs.Boxes.{Box, box_of, in_box, is_empty, is_single, volume, below_cut, above_cut, hull, meet}
@@ -10,11 +10,10 @@ use Rattle.int_model.specs.Models.{IntegerModel, program_of}
 use Rattle.int_model.specs.ByColumn.{column_terms}
 use Rattle.int_model.specs.Build.{model_of, refusal}
 use Rattle.int_model.specs.declared.build.ColumnPart.{ColumnPart}
-use Rattle.int_model.specs.declared.build.Counted.TheVariants as counted
 use Rattle.int_model.specs.declared.build.ModelError.TheVariants as error
 use Rattle.int_model.specs.declared.build.Place.TheVariants as place
 use Rattle.int_model.specs.declared.model.Direction.TheVariants.{Max, Min}
-use Rattle.int_model.specs.declared.model.Rhs.TheVariants.{Inf, MinusInf, Value}
+use Rattle.int_model.specs.declared.model.Rhs.TheVariants.{Inf, MinusInf}
 use Rattle.int_model.specs.declared.model.Row.{Row}
 use Rattle.int_model.specs.declared.model.RowSense.TheVariants.{E, G, L}
 

@@ -1,11 +1,11 @@
 -- What is proved of the definitions.
-use Rattle.std.specs.Prelude.{◌≡◌, ◌↔◌, ◌⊎◌, ℕ, ◌+◌, ◌^◌, ◌<◌, ◌≤◌, ℤ, pos, neg_ℤ, ◌+ℤ◌, ◌-ℤ◌, ◌≤ℤ◌, ◌<ℤ◌, unsigned_abs, true, false, IsTrue, List, [], length, map, slice_index_or, Some, None}
+use Rattle.std.specs.Prelude.{◌≡◌, ◌↔◌, ◌⊎◌, ℕ, ◌+◌, ◌^◌, ◌<◌, ◌≤◌, ℤ, pos, neg_ℤ, ◌+ℤ◌, ◌-ℤ◌, ◌*ℤ◌, ◌≤ℤ◌, ◌<ℤ◌, unsigned_abs, true, false, IsTrue, List, [], length, map, slice_index_or, Some, None}
 use Rattle.std.specs.Int.{int_max, int_min}
 use Rattle.int_model.specs.Integers.{int_at}
 use Rattle.int_model.specs.Boxes.{Box, Interval, InBox, in_box, is_empty, is_single, interval_at, below_cut, above_cut, volume}
 use Rattle.int_model.specs.Programs.{Program, Terms, IsBetween, Feasible, value, row_sum, HasShape}
 use Rattle.int_model.specs.Programs as programs
-use Rattle.int_model.specs.RowSums.{row_at, coefficient}
+use Rattle.int_model.specs.RowSums.{coefficient, greatest_sum, least_sum, row_at, row_misses, without}
 use Rattle.int_model.specs.Ends.{ends_from, ends_of}
 use Rattle.int_model.specs.Models.{IntegerModel, program_of}
 use Rattle.int_model.specs.Models as models
@@ -71,6 +71,22 @@ EndsByTable = (b r z : ℤ) → EndsTable b r z
 -- a row that is removed allows every sum
 abbrev pub RemovedAllows : Type 0
 RemovedAllows = (row : Row) (z : ℤ) → IsBetween (ends_of row Inf) z × IsBetween (ends_of row MinusInf) z
+
+-- at each point of a box the row's sum lies between its least and its greatest
+pub record Bounds (terms : Terms) (box : Box) (x : List ℤ) : Type 0 where
+  pub least : least_sum terms box ≤ℤ row_sum terms x
+  pub greatest : row_sum terms x ≤ℤ greatest_sum terms box
+
+abbrev pub SumsBound : Type 0
+SumsBound = (terms : Terms) (box : Box) (x : List ℤ) → InBox box x → Bounds terms box x
+
+-- the row's sum is the column's part and the sum of the other terms
+abbrev pub SumsSplit : Type 0
+SumsSplit = (j : ℕ) (terms : Terms) (x : List ℤ) → row_sum terms x ≡ coefficient j terms *ℤ int_at x j +ℤ row_sum (without j terms) x
+
+-- a box that a row misses has no feasible point
+abbrev pub MissedHasNone : Type 0
+MissedHasNone = (p : Program) (i : ℕ) (box : Box) → row_misses p i box ≡ true → (x : List ℤ) → Feasible p x → InBox box x → ⊥
 
 -- the coefficient of a row's column is that of the column's row
 abbrev pub ColumnsTransposed : Type 0

@@ -1,5 +1,5 @@
 //! Laws of the definitions. Each function has no code, and its contract is the law.
-ghost use Rattle.int_model.specs.Laws.{BoxTests, ColumnsTransposed, CutShrinks, CutSplits, EndsByTable, LimitsFit, ModelsFit, RemovedAllows};
+ghost use Rattle.int_model.specs.Laws.{BoxTests, ColumnsTransposed, CutShrinks, CutSplits, EndsByTable, LimitsFit, MissedHasNone, ModelsFit, RemovedAllows, SumsBound, SumsSplit};
 
 /// The two parts of a cut hold each point of the box once.
 pub fn cut_splits()
@@ -24,6 +24,21 @@ pub fn ends_by_table()
 /// A row that is removed allows every sum.
 pub fn removed_allows()
     ensures { RemovedAllows }
+{}
+
+/// At each point of a box a row's sum lies between its least and its greatest.
+pub fn sums_bound()
+    ensures { SumsBound }
+{}
+
+/// A row's sum is a column's part and the sum of the other terms.
+pub fn sums_split()
+    ensures { SumsSplit }
+{}
+
+/// A box that a row misses has no feasible point.
+pub fn missed_has_none()
+    ensures { MissedHasNone }
 {}
 
 /// The terms by column are the transposed terms of the rows.
