@@ -10,6 +10,8 @@ use Rattle.int_model.specs.Ends.{ends_from, ends_of}
 use Rattle.int_model.specs.Models.{IntegerModel, program_of}
 use Rattle.int_model.specs.Models as models
 use Rattle.int_model.specs.ByColumn.{column_terms}
+use Rattle.int_model.specs.Build.{AreParts, refusal}
+use Rattle.int_model.specs.declared.build.ColumnPart.{ColumnPart}
 use Rattle.int_model.specs.declared.model.Row.{Row}
 use Rattle.int_model.specs.declared.model.RowSense.TheVariants.{L, G, E}
 use Rattle.int_model.specs.declared.model.Rhs.TheVariants.{Inf, MinusInf}
@@ -91,6 +93,12 @@ MissedHasNone = (p : Program) (i : ℕ) (box : Box) → row_misses p i box ≡ t
 -- the coefficient of a row's column is that of the column's row
 abbrev pub ColumnsTransposed : Type 0
 ColumnsTransposed = (rows : List Terms) (i j : ℕ) → coefficient i (column_terms j 0 rows) ≡ coefficient j (slice_index_or rows i [])
+
+-- ---- parts
+
+-- nothing is refused exactly where the parts make a model
+abbrev pub RefusesTheRest : Type 0
+RefusesTheRest = (columns : List ColumnPart) (rows : List Row) (constant : ℤ) → (refusal columns rows constant ≡ None) ↔ AreParts columns rows constant
 
 -- ---- limits
 

@@ -1,5 +1,5 @@
 //! Laws of the definitions. Each function has no code, and its contract is the law.
-ghost use Rattle.int_model.specs.Laws.{BoxTests, ColumnsTransposed, CutShrinks, CutSplits, EndsByTable, LimitsFit, MissedHasNone, ModelsFit, RemovedAllows, SumsBound, SumsSplit};
+ghost use Rattle.int_model.specs.Laws.{BoxTests, ColumnsTransposed, CutShrinks, CutSplits, EndsByTable, LimitsFit, MissedHasNone, ModelsFit, RefusesTheRest, RemovedAllows, SumsBound, SumsSplit};
 
 /// The two parts of a cut hold each point of the box once.
 pub fn cut_splits()
@@ -44,6 +44,11 @@ pub fn missed_has_none()
 /// The terms by column are the transposed terms of the rows.
 pub fn columns_transposed()
     ensures { ColumnsTransposed }
+{}
+
+/// `Model::build` refuses exactly the parts that break a limit, lack a side or share a name.
+pub fn refuses_the_rest()
+    ensures { RefusesTheRest }
 {}
 
 /// Within the limits the sums of rows stay within 10^18, and values within 2^60.
