@@ -1,11 +1,11 @@
 -- Laws of boxes.
-use Rattle.std.specs.Prelude.{◌≡◌, ◌↔◌, ◌⊎◌, ℕ, zero, suc, ◌<◌, ℤ, pos, ◌+ℤ◌, ◌≤ℤ◌, ◌<ℤ◌, List, [], ◌∷◌, length, slice_set, map, slice_index_or, ◌&&◌, true, false, int_lt, int_le}
+use Rattle.std.specs.Prelude.{◌≤◌, unsigned_abs, ◌≡◌, ◌↔◌, ◌⊎◌, ℕ, zero, suc, ◌<◌, ℤ, pos, ◌+ℤ◌, ◌≤ℤ◌, ◌<ℤ◌, List, [], ◌∷◌, length, slice_set, map, slice_index_or, ◌&&◌, true, false, int_lt, int_le}
 use Rattle.std.proofs.Common.{arith, refl, ap, sym, subst, inl, inr}
 use Rattle.std.proofs.lemmas.Bool.{and_parts, or_parts, both_ways, cases_Bool}
 use Rattle.std.proofs.lemmas.Bool.Decides.{Decides-int_eq}
 use Rattle.std.proofs.lemmas.Int.{ints, clamps}
 use Rattle.int_model.specs.Integers.{int_at, int_eq}
-use Rattle.int_model.specs.Boxes.{Interval, Box, box_of, InBox, in_box, interval_at, at_most, at_least, below_cut, above_cut, meet, hull, is_empty, is_single}
+use Rattle.int_model.specs.Boxes.{BoundsWithin, Interval, Box, box_of, InBox, in_box, interval_at, at_most, at_least, below_cut, above_cut, meet, hull, is_empty, is_single}
 use Rattle.int_model.specs.Laws.{Splits, TellsPoints}
 
 -- a number of an interval
@@ -215,3 +215,25 @@ splits box j v h = record {
       let high : (v +ℤ pos 1) ≤ℤ int_at x j = ((above_cut-points box x j v h).0 q).1 in
       absurd (omega (arith, ints, low, high));
 }
+
+-- ---- the ends and the limits at a column, also past the end, where both are 0
+
+pub lows-at : (box : Box) (j : ℕ) → int_at (map (λ (i : Interval). i.low) box) j ≡ (interval_at box j).low
+lows-at [] j = refl
+lows-at (i ∷ box) zero = refl
+lows-at (i ∷ box) (suc j) = lows-at box j
+
+pub highs-at : (box : Box) (j : ℕ) → int_at (map (λ (i : Interval). i.high) box) j ≡ (interval_at box j).high
+highs-at [] j = refl
+highs-at (i ∷ box) zero = refl
+highs-at (i ∷ box) (suc j) = highs-at box j
+
+pub BoundsWithin-at : (most : ℕ) (box : Box) (j : ℕ) → BoundsWithin most box → (unsigned_abs (interval_at box j).low ≤ most) × (unsigned_abs (interval_at box j).high ≤ most)
+BoundsWithin-at most [] j b = (omega arith, omega arith)
+BoundsWithin-at most (i ∷ box) zero b = (b.0, b.1)
+BoundsWithin-at most (i ∷ box) (suc j) b = BoundsWithin-at most box j b.2
+
+pub BoundsWithin-set : (most : ℕ) (box : Box) (j : ℕ) (i : Interval) → BoundsWithin most box → unsigned_abs i.low ≤ most → unsigned_abs i.high ≤ most → BoundsWithin most (slice_set box j i)
+BoundsWithin-set most [] j i b low high = tt
+BoundsWithin-set most (k ∷ box) zero i b low high = (low, high, b.2)
+BoundsWithin-set most (k ∷ box) (suc j) i b low high = (b.0, b.1, BoundsWithin-set most box j i b.2 low high)

@@ -48,6 +48,14 @@ terms_more j k rows d h =
     ∙ ap (λ n. column_terms j 0 (take k rows) ++ (column_part j n (get_or rows k d) ++ [])) here_is
     ∙ ap (λ l. column_terms j 0 (take k rows) ++ l) (append-nil (column_part j k (get_or rows k d)))
 
+-- a column after one more row
+pub row_put : (rows : List Terms) (j i : ℕ) (row read old new : Terms) → i < length rows → read ≡ get_or rows i row → old ≡ column_terms j 0 (take i rows) → new ≡ old ++ column_part j i read → new ≡ column_terms j 0 (take (i + 1) rows)
+row_put rows j i row read old new h is so_far pushed =
+    pushed
+    ∙ ap (λ (ts : Terms). ts ++ column_part j i read) so_far
+    ∙ ap (λ (ts : Terms). column_terms j 0 (take i rows) ++ column_part j i ts) is
+    ∙ sym (terms_more j i rows row h)
+
 pub terms_below : (least n : ℕ) (ts : List (ℕ × ℤ)) → AreTerms least n ts → All (λ t. t.0 < n) ts
 terms_below least n [] h = All-nil (λ t. t.0 < n)
 terms_below least n (t ∷ ts) h = All-cons (λ t. t.0 < n) t ts h.1 (terms_below (t.0 + 1) n ts h.4)

@@ -1,15 +1,17 @@
 -- What is proved of the definitions.
-use Rattle.std.specs.Prelude.{◌≡◌, ◌↔◌, ◌⊎◌, ℕ, ◌+◌, ◌^◌, ◌<◌, ◌≤◌, ℤ, pos, neg_ℤ, ◌+ℤ◌, ◌-ℤ◌, ◌≤ℤ◌, ◌<ℤ◌, unsigned_abs, true, false, IsTrue, List, [], length, map, slice_index_or, Some, None}
+use Rattle.std.specs.Prelude.{◌≡◌, ◌↔◌, ◌⊎◌, ℕ, ◌+◌, ◌^◌, ◌<◌, ◌≤◌, ℤ, pos, neg_ℤ, ◌+ℤ◌, ◌-ℤ◌, ◌*ℤ◌, ◌≤ℤ◌, ◌<ℤ◌, unsigned_abs, true, false, IsTrue, List, [], length, map, slice_index_or, Some, None}
 use Rattle.std.specs.Int.{int_max, int_min}
 use Rattle.int_model.specs.Integers.{int_at}
 use Rattle.int_model.specs.Boxes.{Box, Interval, InBox, in_box, is_empty, is_single, interval_at, below_cut, above_cut, volume}
 use Rattle.int_model.specs.Programs.{Program, Terms, IsBetween, Feasible, value, row_sum, HasShape}
 use Rattle.int_model.specs.Programs as programs
-use Rattle.int_model.specs.RowSums.{row_at, coefficient}
+use Rattle.int_model.specs.RowSums.{coefficient, greatest_sum, least_sum, row_at, row_misses, without}
 use Rattle.int_model.specs.Ends.{ends_from, ends_of}
 use Rattle.int_model.specs.Models.{IntegerModel, program_of}
 use Rattle.int_model.specs.Models as models
 use Rattle.int_model.specs.ByColumn.{column_terms}
+use Rattle.int_model.specs.Build.{AreParts, refusal}
+use Rattle.int_model.specs.declared.build.ColumnPart.{ColumnPart}
 use Rattle.int_model.specs.declared.model.Row.{Row}
 use Rattle.int_model.specs.declared.model.RowSense.TheVariants.{L, G, E}
 use Rattle.int_model.specs.declared.model.Rhs.TheVariants.{Inf, MinusInf}
@@ -72,9 +74,31 @@ EndsByTable = (b r z : ℤ) → EndsTable b r z
 abbrev pub RemovedAllows : Type 0
 RemovedAllows = (row : Row) (z : ℤ) → IsBetween (ends_of row Inf) z × IsBetween (ends_of row MinusInf) z
 
+-- at each point of a box the row's sum lies between its least and its greatest
+pub record Bounds (terms : Terms) (box : Box) (x : List ℤ) : Type 0 where
+  pub least : least_sum terms box ≤ℤ row_sum terms x
+  pub greatest : row_sum terms x ≤ℤ greatest_sum terms box
+
+abbrev pub SumsBound : Type 0
+SumsBound = (terms : Terms) (box : Box) (x : List ℤ) → InBox box x → Bounds terms box x
+
+-- the row's sum is the column's part and the sum of the other terms
+abbrev pub SumsSplit : Type 0
+SumsSplit = (j : ℕ) (terms : Terms) (x : List ℤ) → row_sum terms x ≡ coefficient j terms *ℤ int_at x j +ℤ row_sum (without j terms) x
+
+-- a box that a row misses has no feasible point
+abbrev pub MissedHasNone : Type 0
+MissedHasNone = (p : Program) (i : ℕ) (box : Box) → row_misses p i box ≡ true → (x : List ℤ) → Feasible p x → InBox box x → ⊥
+
 -- the coefficient of a row's column is that of the column's row
 abbrev pub ColumnsTransposed : Type 0
 ColumnsTransposed = (rows : List Terms) (i j : ℕ) → coefficient i (column_terms j 0 rows) ≡ coefficient j (slice_index_or rows i [])
+
+-- ---- parts
+
+-- nothing is refused exactly where the parts make a model
+abbrev pub RefusesTheRest : Type 0
+RefusesTheRest = (columns : List ColumnPart) (rows : List Row) (constant : ℤ) → (refusal columns rows constant ≡ None) ↔ AreParts columns rows constant
 
 -- ---- limits
 

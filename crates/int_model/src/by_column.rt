@@ -32,7 +32,7 @@ fn add_row(table: &mut Vec<Vec<(u32, i64)>>, i: u32, terms: &[(u32, i64)]) -> Re
     Ok(())
 }
 
-/// The terms of each column, beside the numbers of their rows.
+// The terms of each column, beside the numbers of their rows.
 pub(crate) fn terms_by_column(
     alloc: Global,
     columns: usize,

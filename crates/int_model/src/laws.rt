@@ -1,5 +1,5 @@
 //! Laws of the definitions. Each function has no code, and its contract is the law.
-ghost use Rattle.int_model.specs.Laws.{BoxTests, ColumnsTransposed, CutShrinks, CutSplits, EndsByTable, LimitsFit, ModelsFit, RemovedAllows};
+ghost use Rattle.int_model.specs.Laws.{BoxTests, ColumnsTransposed, CutShrinks, CutSplits, EndsByTable, LimitsFit, MissedHasNone, ModelsFit, RefusesTheRest, RemovedAllows, SumsBound, SumsSplit};
 
 /// The two parts of a cut hold each point of the box once.
 pub fn cut_splits()
@@ -26,9 +26,29 @@ pub fn removed_allows()
     ensures { RemovedAllows }
 {}
 
+/// At each point of a box a row's sum lies between its least and its greatest.
+pub fn sums_bound()
+    ensures { SumsBound }
+{}
+
+/// A row's sum is a column's part and the sum of the other terms.
+pub fn sums_split()
+    ensures { SumsSplit }
+{}
+
+/// A box that a row misses has no feasible point.
+pub fn missed_has_none()
+    ensures { MissedHasNone }
+{}
+
 /// The terms by column are the transposed terms of the rows.
 pub fn columns_transposed()
     ensures { ColumnsTransposed }
+{}
+
+/// `Model::build` refuses exactly the parts that break a limit, lack a side or share a name.
+pub fn refuses_the_rest()
+    ensures { RefusesTheRest }
 {}
 
 /// Within the limits the sums of rows stay within 10^18, and values within 2^60.

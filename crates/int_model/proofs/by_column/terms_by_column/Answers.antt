@@ -1,10 +1,9 @@
-use Rattle.std.proofs.Common.{◌≡◌, ◌++◌, ◌<◌, ◌∙◌, ap, sym, subst, take, map, List, length, slice_index_or, vec_len}
+use Rattle.std.proofs.Common.{◌≡◌, ◌<◌, ◌∙◌, ap, sym, subst, map, List, length, slice_index_or, vec_len}
 use Rattle.std.proofs.lemmas.List.{get_or-map, length-map}
 use Rattle.int_model.specs.Programs.{Terms}
 use Rattle.int_model.specs.Models.{IsRow}
-use Rattle.int_model.specs.ByColumn.{column_part, column_terms}
 use Rattle.int_model.specs.declared.model.Row.{Row}
-use Rattle.int_model.proofs.ByColumnLemmas.{terms_below, terms_more}
+use Rattle.int_model.proofs.ByColumnLemmas.{row_put, terms_below}
 use Rattle.int_model.proofs.by_column.terms_by_column.Goals as goal
 
 pub add_row-requires : goal.add_row-requires
@@ -25,8 +24,5 @@ loop-i-preserved c =
       length = c.in_ok-add_row.ensures.length ∙ same;
       terms = λ j d h.
           let inside : j < vec_len c.loop-i.table = rw same h in
-          c.in_ok-add_row.ensures.terms j d inside
-          ∙ ap (λ (ts : Terms). ts ++ column_part j i c.as_slice.result.now) (c.loop-i.invariant.terms j d h)
-          ∙ ap (λ (ts : Terms). column_terms j 0 (take i all) ++ column_part j i ts) read
-          ∙ sym (terms_more j i all row.terms within);
+          row_put all j i row.terms _ _ _ within read (c.loop-i.invariant.terms j d h) (c.in_ok-add_row.ensures.terms j d inside);
     }
