@@ -1,2 +1,1 @@
-pub mod RowSumLaws
 pub mod SumLemmas

@@ -3,9 +3,8 @@ use Rattle.std.proofs.Common.{◌≡◌, ℕ, suc, zero, ◌-◌, ◌^◌, [], �
 use Rattle.std.specs.Cmp.Lexicographic.{slice_cmp, nat_list_cmp_total}
 use Rattle.std.specs.FinMap.{empty, insert, get-empty, get-insert}
 use Rattle.std.specs.Ordering.{nat_cmp}
-use Rattle.desk.specs.Causes.{Rose}
+use Rattle.desk.specs.Causes.{Rose, next_count}
 use Rattle.desk.specs.Desk.{Files, bytes_of, IsFetched, NotesName, Appends, FetchHasCause}
-use Rattle.desk.specs.States.{next_count}
 use Rattle.desk.specs.declared.FetchError.TheVariants as fetching
 use Rattle.desk.specs.declared.DeskError.TheVariants as writing
 

@@ -40,7 +40,7 @@ find-set (x ∷ xs) (suc k) f q within same first =
 same_files : (m n : Files) → ((q : List ℕ) → get m q ≡ get n q) → m ≡ n
 same_files = same_map nat_list_cmp_total (slice_cmp-IsAntisymmetric nat_cmp-IsAntisymmetric)
 
-get_insert-bytes_eq : (m : Files) (name bytes q : List ℕ) → get (insert m name bytes) q ≡ cond (bytes_eq q name) (Some bytes) (get m q)
+pub get_insert-bytes_eq : (m : Files) (name bytes q : List ℕ) → get (insert m name bytes) q ≡ cond (bytes_eq q name) (Some bytes) (get m q)
 get_insert-bytes_eq m name bytes q = rw (← is_eq-slice_cmp) (get-insert nat_list_cmp_total m name bytes q)
 
 abbrev is_named : List ℕ → StoredFile → Bool

@@ -1,9 +1,10 @@
 -- What the desks in memory keep, and the whole change that each of their calls makes.
-use Rattle.std.specs.Prelude.{◌≡◌, ◌⊎◌, ℕ, ◌+◌, ◌-◌, ◌^◌, ◌<◌, ◌≤◌, min, List, [], ◌∷◌, ◌++◌, length, take, Option, None, Some, IsSome, IsSomeAnd, Result, Ok, Err, Vec, refl}
+use Rattle.std.specs.Prelude.{◌≡◌, ◌⊎◌, ℕ, ◌<◌, ◌≤◌, List, [], ◌∷◌, ◌++◌, length, take, Option, None, Some, IsSome, IsSomeAnd, Result, Ok, Err, Vec, refl}
 use Rattle.std.specs.declared.alloc.Global.{Global}
 use Rattle.std.specs.Coded.{Coded, code_by, coded×, coded_ℕ, coded_list}
 use Rattle.std.specs.Ordering.{nat_cmp}
 use Rattle.std.specs.FinMap as map
+use Rattle.desk.specs.Causes.{next_count}
 use Rattle.desk.specs.Desk.{Files, bytes_of}
 use Rattle.desk.specs.declared.FetchError.{FetchError}
 use Rattle.desk.specs.declared.FetchError.TheVariants as fetching
@@ -25,10 +26,6 @@ pub record DeskState : Type 0 where
 abbrev pub desk_state_code : Coded DeskState
 desk_state_code =
     code_by (Files × (List ℕ × (List ℕ × (List (List ℕ) × (ℕ × (ℕ × (ℕ × map.FinMap nat_cmp ℕ))))))) (coded× (map.code (coded_list coded_ℕ) (coded_list coded_ℕ)) (coded× (coded_list coded_ℕ) (coded× (coded_list coded_ℕ) (coded× (coded_list (coded_list coded_ℕ)) (coded× coded_ℕ (coded× coded_ℕ (coded× coded_ℕ (map.code coded_ℕ coded_ℕ)))))))) (λ s. (s.files, (s.printed, (s.warned, (s.fetched, (s.fetch_faults, (s.write_faults, (s.calls, s.failing)))))))) (λ p. record { files = p.0; printed = p.1.0; warned = p.1.1.0; fetched = p.1.1.1.0; fetch_faults = p.1.1.1.1.0; write_faults = p.1.1.1.1.1.0; calls = p.1.1.1.1.1.1.0; failing = p.1.1.1.1.1.1.1 }) (λ _. refl)
-
--- the next value of a count of 64 bits, which stops at its last one
-abbrev pub next_count : ℕ → ℕ
-next_count n = min (n + 1) (2 ^ 64 - 1)
 
 -- how many bytes the next call keeps, where it is to fail
 abbrev pub next_failure : DeskState → Option ℕ
