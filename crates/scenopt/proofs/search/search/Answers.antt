@@ -1,0 +1,31 @@
+use Rattle.std.proofs.Common.{◌≡◌, ◌∙◌, sym, ap, subst, arith, rules, None, [], ◌∷◌, ◌++◌, List, Vec, FitsSigned, w64}
+use Rattle.std.proofs.lemmas.Int.{ints, to_z-of_z}
+use Rattle.std.specs.declared.alloc.Global.{Global}
+use Rattle.int_model.specs.Boxes.{Box, Interval}
+use Rattle.scenopt.specs.Searches.{Covers, program_over}
+use Rattle.scenopt.proofs.SearchLemmas.{covers_more, covers_empty, covers_root, kept_fits}
+use Rattle.scenopt.proofs.search.search.Goals as goal
+use Rattle.scenopt.proofs.search.search.Goals.{then-not-is_empty+in_ok-push, else-not-is_empty}
+
+pub loop-bounds-init : goal.loop-bounds-init
+loop-bounds-init c =
+    let p = program_over c.args.asked.now c.args.root in
+    elim c.if-not-is_empty.branch [
+      | then-not-is_empty+in_ok-push w ↦
+          let items : c.if-not-is_empty.boxes.items ≡ c.args.root ∷ [] = search rules in
+          subst (λ (l : List Box). Covers p l None) (sym items) (covers_root p (sym w.if-not-is_empty.ensures))
+      | else-not-is_empty w ↦
+          let items : c.if-not-is_empty.boxes.items ≡ [] = search rules in
+          subst (λ (l : List Box). Covers p l None) (sym items) (covers_empty p (sym w.if-not-is_empty.ensures))
+    ]
+
+pub loop-bounds-preserved : goal.loop-bounds-preserved
+loop-bounds-preserved c =
+    let p = program_over c.args.asked.now c.args.root in
+    covers_more p _ _ _ _ _ (subst (λ bs. Covers p bs c.loop-bounds.best) c.in-Some.ensures.items c.loop-bounds.invariant) c.in_ok-visit.ensures
+
+pub returns-in-Some-best-clause-fits : goal.returns-in-Some-best-clause-fits
+returns-in-Some-best-clause-fits c =
+    let k = kept_fits (program_over c.args.asked.now c.args.root) c.loop-bounds.best c.in-Some-best.best c.loop-bounds.invariant.kept c.in-Some-best.is in
+    let fits : FitsSigned w64 c.in-Some-best.best.value = omega (arith, ints, k.1) in
+    (k.0 ∙ c.requires.columns, rw (to_z-of_z w64 c.in-Some-best.best.value fits) k.1)
