@@ -1,3 +1,5 @@
 mod SearchLemmas
 mod ReportLemmas
 mod WordLemmas
+mod BaseLemmas
+mod DeskLemmas

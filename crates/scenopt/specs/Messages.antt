@@ -3,6 +3,7 @@ use Rattle.std.specs.Prelude.{ℕ, List, ◌++◌, codes, decimal}
 use Rattle.mps_reader.specs.declared.MpsKind.{MpsKind}
 use Rattle.mps_reader.specs.declared.MpsKind.TheVariants.{Section, NoEnd, Fields, UnknownRow, UnknownColumn, Duplicate, LongName, Continuous, Number, Fraction, Magnitude, SecondSet, TooMany, Unbounded, NegativeUpper}
 
+-- the usage text
 abbrev pub usage : List ℕ
 usage = codes "usage: scenopt solve MODEL CHANGES [--workers N] [--nodes K] [--log FILE]\n       scenopt check MODEL CHANGES LOG\n       scenopt gen SEED COLUMNS ROWS SCENARIOS\n"
 
@@ -25,5 +26,5 @@ kind_word Unbounded = codes "Unbounded"
 kind_word NegativeUpper = codes "NegativeUpper"
 
 -- a model text that is refused at a line
-abbrev pub model_line : ℕ → MpsKind → List ℕ
+unfoldable pub model_line : ℕ → MpsKind → List ℕ
 model_line line kind = codes "model line " ++ decimal line ++ codes ": " ++ kind_word kind ++ codes "\n"
