@@ -2,9 +2,8 @@
 // what the system does with the bytes.
 use desk::{Desk, DeskError, FetchError};
 use std::alloc::Global;
-use std::fs;
-use std::io;
 use std::io::{Read, Write};
+use std::{fs, io};
 
 #[derive(Drop)]
 pub(crate) struct HostDesk<'r> {

@@ -7,13 +7,14 @@ mod message;
 mod report;
 mod run;
 mod search;
+#[cfg(test)]
+mod tests;
 mod words;
 
 use crate::host_desk::HostDesk;
 use crate::run::{Status, quiet_main};
-use std::env;
-use std::io;
 use std::process::ExitCode;
+use std::{env, io};
 
 fn main(rt: HostRuntime) -> ExitCode {
     ExitCode::from(run_arguments(&rt).code())

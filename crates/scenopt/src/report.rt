@@ -121,7 +121,11 @@ fn push_answer(
 }
 
 /// The report of the answer to a model.
-pub(crate) fn report_of(alloc: Global, model: &Model, answer: &Answer) -> Result<Vec<u8>, AllocError>
+pub(crate) fn report_of(
+    alloc: Global,
+    model: &Model,
+    answer: &Answer,
+) -> Result<Vec<u8>, AllocError>
     requires { AnswerFits (length model.now.columns) answer.now }
     ensures { IfOk result (λ text. text.items ≡ report model.now answer.now) }
 {

@@ -1,0 +1,232 @@
+// The worked models, command lines, faults and refusals, run over a desk in memory.
+use crate::run::{Status, quiet_main};
+use desk::MemoryDesk;
+use std::alloc::{AllocError, Global};
+use std::test::Fail;
+
+const M1: [&str; 15] = [
+    "NAME m1\n",
+    "ROWS\n",
+    " N cost\n",
+    " L cap\n",
+    "COLUMNS\n",
+    " M 'MARKER' 'INTORG'\n",
+    " x cost -3 cap 2\n",
+    " y cost -2 cap 1\n",
+    " M 'MARKER' 'INTEND'\n",
+    "RHS\n",
+    " rhs cap 4\n",
+    "BOUNDS\n",
+    " UP b x 3\n",
+    " UP b y 3\n",
+    "ENDATA\n",
+];
+
+const M1_REPORT: &str =
+    "ImpliedBinary 0\nNumScenarios 0\nScenarioNumber 0\nScenNName -\nStatus optimal\nScenNObjVal -7\nScenNObjBound -7\nScenNX x 1\nScenNX y 2\n";
+
+// M1 with two lines replaced; number 0 is no line.
+fn edited(
+    alloc: Global,
+    first: (usize, &str),
+    second: (usize, &str),
+) -> Result<String, AllocError> {
+    let mut text = String::new(alloc);
+    for (index, line) in M1.iter().enumerate() {
+        if index + 1 == first.0 {
+            text.push_str(first.1)?;
+        } else if index + 1 == second.0 {
+            text.push_str(second.1)?;
+        } else {
+            text.push_str(line)?;
+        }
+    }
+    Ok(text)
+}
+
+fn words_of(alloc: Global, words: &[&str]) -> Result<Vec<String>, AllocError> {
+    let mut all = Vec::new(alloc);
+    for word in words {
+        all.push(String::from_str(alloc, word)?)?;
+    }
+    Ok(all)
+}
+
+// A desk with a model file on which `solve` has run, and the status.
+fn solved(alloc: Global, text: &str) -> Result<(MemoryDesk, Status), AllocError> {
+    let mut desk = MemoryDesk::new(alloc);
+    desk.add_file("m", text.as_bytes())?;
+    let words = words_of(alloc, &["solve", "m", "-"])?;
+    let status = quiet_main(alloc, &words, &mut desk);
+    Ok((desk, status))
+}
+
+#[test]
+fn reports_the_worked_models(rt: HostRuntime) -> Result<(), Fail> {
+    let alloc = rt.alloc();
+    let m1 = edited(alloc, (0, ""), (0, ""))?;
+    let cases = [
+        (m1.as_str(), M1_REPORT),
+        (
+            "NAME m1\nOBJSENSE\n MAX\nROWS\n N cost\n L cap\nCOLUMNS\n M 'MARKER' 'INTORG'\n x cost 3 cap 2\n y cost 2 cap 1\n M 'MARKER' 'INTEND'\nRHS\n rhs cap 4\nBOUNDS\n UP b x 3\n UP b y 3\nENDATA\n",
+            "ImpliedBinary 0\nNumScenarios 0\nScenarioNumber 0\nScenNName -\nStatus optimal\nScenNObjVal 7\nScenNObjBound 7\nScenNX x 1\nScenNX y 2\n",
+        ),
+        (
+            "NAME none\nROWS\n N obj\n G r\nCOLUMNS\nRHS\n rhs r 0\nENDATA\n",
+            "ImpliedBinary 0\nNumScenarios 0\nScenarioNumber 0\nScenNName -\nStatus optimal\nScenNObjVal 0\nScenNObjBound 0\n",
+        ),
+        (
+            "NAME none\nROWS\n N obj\n G r\nCOLUMNS\nRHS\n rhs r 1\nENDATA\n",
+            "ImpliedBinary 0\nNumScenarios 0\nScenarioNumber 0\nScenNName -\nStatus infeasible\nScenNObjVal inf\nScenNObjBound inf\n",
+        ),
+        (
+            "* written by a usual producer\nNAME          prod\nROWS\n N  OBJ\n L  c1\nCOLUMNS\n    MARKER                 'MARKER'                 'INTORG'\n    x         OBJ       3.0000000000e+00   c1        1.0000000000e+00\n    y         OBJ       -2.0000000000e+00   c1        1.0000000000e+00\n    MARKER                 'MARKER'                 'INTEND'\nRHS\n    RHS1      OBJ       5.0000000000e+00   c1        4.0000000000e+00\nBOUNDS\n UP BND1      x         4.0000000000e+00\nENDATA\n",
+            "ImpliedBinary 1\nNumScenarios 0\nScenarioNumber 0\nScenNName -\nStatus optimal\nScenNObjVal -7\nScenNObjBound -7\nScenNX x 0\nScenNX y 1\n",
+        ),
+        (
+            "ROWS\n N obj\nCOLUMNS\n x obj 1000000000\nBOUNDS\n LI b x -1000000\n UI b x -999990\nENDATA\n",
+            "ImpliedBinary 0\nNumScenarios 0\nScenarioNumber 0\nScenNName -\nStatus optimal\nScenNObjVal -1000000000000000\nScenNObjBound -1000000000000000\nScenNX x -1000000\n",
+        ),
+        (
+            "ROWS\n N obj\n E r\nCOLUMNS\n M 'MARKER' 'INTORG'\n x obj 1 r 1\n M 'MARKER' 'INTEND'\nRHS\n rhs r 5\nRANGES\n rng r -2\nBOUNDS\n UP b x 9\nENDATA\n",
+            "ImpliedBinary 0\nNumScenarios 0\nScenarioNumber 0\nScenNName -\nStatus optimal\nScenNObjVal 3\nScenNObjBound 3\nScenNX x 3\n",
+        ),
+        (
+            "ROWS\n N obj\n E r\nCOLUMNS\n M 'MARKER' 'INTORG'\n x obj 1 r 1\n M 'MARKER' 'INTEND'\nRHS\n rhs r 5\nRANGES\n rng r 2\nBOUNDS\n UP b x 9\nENDATA\n",
+            "ImpliedBinary 0\nNumScenarios 0\nScenarioNumber 0\nScenNName -\nStatus optimal\nScenNObjVal 5\nScenNObjBound 5\nScenNX x 5\n",
+        ),
+    ];
+    for (text, report) in cases {
+        let (desk, status) = solved(alloc, text)?;
+        assert_eq!(rt; status, Status::Done, "at {text}");
+        assert_eq!(rt; desk.printed(), report.as_bytes(), "at {text}");
+        assert_eq!(rt; desk.warned(), b"".as_slice(), "at {text}");
+    }
+    Ok(())
+}
+
+#[test]
+fn refuses_models_at_their_first_offence(rt: HostRuntime) -> Result<(), Fail> {
+    let alloc = rt.alloc();
+    let cases = [
+        ((4, " Q cap\n"), (0, ""), "model line 4: Fields\n"),
+        (
+            (7, " x cost -3 top 2\n"),
+            (0, ""),
+            "model line 7: UnknownRow\n",
+        ),
+        (
+            (7, " x cost -3 cap 0.5\n"),
+            (0, ""),
+            "model line 7: Fraction\n",
+        ),
+        (
+            (8, " x cost -2 cap 1\n"),
+            (0, ""),
+            "model line 8: Duplicate\n",
+        ),
+        (
+            (8, " y cost -2 cap one\n"),
+            (0, ""),
+            "model line 8: Number\n",
+        ),
+        (
+            (11, " rhs cap 4 extra\n"),
+            (0, ""),
+            "model line 11: UnknownRow\n",
+        ),
+        (
+            (11, " rhs cap 4\n other cap 5\n"),
+            (0, ""),
+            "model line 12: SecondSet\n",
+        ),
+        (
+            (13, " UP b w 3\n"),
+            (0, ""),
+            "model line 13: UnknownColumn\n",
+        ),
+        (
+            (13, " UP b x -1\n"),
+            (0, ""),
+            "model line 15: NegativeUpper\n",
+        ),
+        ((13, " LO b x 1\n"), (0, ""), "model line 15: Unbounded\n"),
+        ((6, ""), (9, ""), "model line 13: Continuous\n"),
+        ((10, "SETS\n"), (0, ""), "model line 10: Section\n"),
+        ((15, ""), (0, ""), "model line 15: NoEnd\n"),
+        (
+            (7, " x cost 1000000001 cap 2\n"),
+            (0, ""),
+            "model line 7: Magnitude\n",
+        ),
+    ];
+    for (first, second, message) in cases {
+        let text = edited(alloc, first, second)?;
+        let (desk, status) = solved(alloc, text.as_str())?;
+        assert_eq!(rt; status, Status::ModelRefused, "at {message}");
+        assert_eq!(rt; desk.warned(), message.as_bytes(), "at {message}");
+        assert_eq!(rt; desk.printed(), b"".as_slice(), "at {message}");
+    }
+    let (desk, status) = solved(alloc, "")?;
+    assert_eq!(rt; status, Status::ModelRefused);
+    assert_eq!(rt; desk.warned(), b"model line 1: NoEnd\n".as_slice());
+    Ok(())
+}
+
+#[test]
+fn refuses_what_is_no_command(rt: HostRuntime) -> Result<(), Fail> {
+    let alloc = rt.alloc();
+    let lines = [
+        ["solve", "m", "-", "--workers", "0"].as_slice(),
+        ["solve", "m", "-", "--nodes", "1", "--nodes", "1"].as_slice(),
+        ["solve", "m"].as_slice(),
+        [].as_slice(),
+        ["solve", "-", "-"].as_slice(),
+        ["solve", "", "-"].as_slice(),
+        ["Solve", "m", "-"].as_slice(),
+        ["--help"].as_slice(),
+    ];
+    let usage =
+        b"usage: scenopt solve MODEL CHANGES [--workers N] [--nodes K] [--log FILE]\n       scenopt check MODEL CHANGES LOG\n       scenopt gen SEED COLUMNS ROWS SCENARIOS\n";
+    for line in lines {
+        let mut desk = MemoryDesk::new(alloc);
+        let words = words_of(alloc, line)?;
+        assert_eq!(rt;
+            quiet_main(alloc, &words, &mut desk),
+            Status::Usage,
+            "at {line:?}"
+        );
+        assert_eq!(rt; desk.warned(), usage.as_slice(), "at {line:?}");
+        assert_eq!(rt; desk.faults(), (0, 0), "at {line:?}");
+    }
+    Ok(())
+}
+
+#[test]
+fn tells_of_faults(rt: HostRuntime) -> Result<(), Fail> {
+    let alloc = rt.alloc();
+    let m1 = edited(alloc, (0, ""), (0, ""))?;
+    let cases = [
+        (1, 0, Status::ReadFault, "", "cannot read model\n"),
+        (2, 4, Status::WriteFault, "Impl", "cannot write output\n"),
+    ];
+    for (call, kept, wanted, printed, warned) in cases {
+        let mut desk = MemoryDesk::new(alloc);
+        desk.add_file("m", m1.as_bytes())?;
+        desk.fail(call, kept)?;
+        let words = words_of(alloc, &["solve", "m", "-"])?;
+        assert_eq!(rt;
+            quiet_main(alloc, &words, &mut desk),
+            wanted,
+            "at call {call}"
+        );
+        assert_eq!(rt; desk.printed(), printed.as_bytes(), "at call {call}");
+        assert_eq!(rt; desk.warned(), warned.as_bytes(), "at call {call}");
+    }
+    // After a warning that failed no other is tried.
+    let mut desk = MemoryDesk::new(alloc);
+    desk.fail(1, 5)?;
+    assert_eq!(rt; quiet_main(alloc, &[], &mut desk), Status::WriteFault);
+    assert_eq!(rt; desk.warned(), b"usage".as_slice());
+    Ok(())
+}
