@@ -132,7 +132,11 @@ impl Bounds {
             return Err(MpsKind::NegativeUpper);
         }
         let low = self.low.unwrap_or(Some(0));
-        let high = self.high.unwrap_or(if self.is_implied(is_marked) { Some(1) } else { None });
+        let high = self.high.unwrap_or(if self.is_implied(is_marked) {
+            Some(1)
+        } else {
+            None
+        });
         if low.is_none() || high.is_none() {
             return Err(MpsKind::Unbounded);
         }

@@ -70,11 +70,7 @@ impl<'a> Rows<'a> {
         }
     }
 
-    pub(crate) fn take_line(
-        &mut self,
-        alloc: Global,
-        fields: &[&'a [u8]],
-    ) -> Result<(), Fault> {
+    pub(crate) fn take_line(&mut self, alloc: Global, fields: &[&'a [u8]]) -> Result<(), Fault> {
         let [word, field] = fields else {
             return Err(Fault::Refused(MpsKind::Fields));
         };
