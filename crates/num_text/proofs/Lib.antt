@@ -1,5 +1,4 @@
 pub mod CutLaws
-pub mod DecimalLaws
 pub mod FieldLaws
 pub mod LineExamples
 pub mod LineLaws
