@@ -1,1 +1,3 @@
 pub mod ReplayLaws
+pub mod OtherTerms
+pub mod NarrowLemmas

@@ -1,5 +1,5 @@
 // What a row's end leaves of the interval of a column.
-ghost use Rattle.std.specs.Prelude.{◌≡◌, ◌*◌, ◌^◌, ◌<◌, ◌≤◌, ◌-ℤ◌, ◌≤ℤ◌, neg_ℤ, unsigned_abs, length, false};
+ghost use Rattle.std.specs.Prelude.{◌≡◌, ◌*◌, ◌^◌, ◌<◌, ◌≤◌, ◌-ℤ◌, ◌≤ℤ◌, neg_ℤ, unsigned_abs, length, false, IfSome};
 ghost use Rattle.int_model.specs.Limits.{IsBound, IsEntry};
 ghost use Rattle.int_model.specs.Boxes.{box_of, is_empty, at_least, at_most};
 ghost use Rattle.int_model.specs.Ends.{EndsWithin};
@@ -62,14 +62,12 @@ fn narrow(coefficient: i64, limit: i64, low: i32, high: i32) -> Option<(i32, i32
     requires occupied { low ≤ℤ high }
     ensures { IsLeft (narrowed coefficient limit (record { low = low; high = high })) result }
 {
-    if coefficient == 0 {
-        return Some((low, high));
-    }
-    let quotient = limit.div_euclid(coefficient);
     if coefficient > 0 {
-        cut_above(quotient, low, high)
+        cut_above(limit.div_euclid(coefficient), low, high)
+    } else if coefficient < 0 {
+        cut_below(limit.div_euclid(coefficient), low, high)
     } else {
-        cut_below(quotient, low, high)
+        Some((low, high))
     }
 }
 
@@ -105,7 +103,47 @@ fn cut_below(least: i64, low: i32, high: i32) -> Option<(i32, i32)>
     }
 }
 
-/// What an end of a row leaves of the interval of a column, None where it leaves no number.
+// What an upper end of a row leaves of the interval of a column.
+fn by_upper(terms: &[(u32, i64)], end: Option<i64>, column: u32, low: &[i32], high: &[i32]) -> Option<(i32, i32)>
+    requires summed { AreSummed terms.now low.now high.now }
+    requires end { IfSome end (λ u. unsigned_abs u ≤ 2 * 10 ^ 18) }
+    requires column { column < length low.now }
+    requires occupied { is_empty (box_of low.now high.now) ≡ false }
+    ensures { IsLeft (spec.by_upper terms.now end column (box_of low.now high.now)) result }
+{
+    let place = column as usize;
+    let (least, most) = (low[place], high[place]);
+    match end {
+        Some(end) => {
+            let own = coefficient(terms, column);
+            let others = least_others(terms, low, high, column, own);
+            narrow(own, end - others, least, most)
+        }
+        None => Some((least, most)),
+    }
+}
+
+// What a lower end of a row leaves of the interval of a column.
+fn by_lower(terms: &[(u32, i64)], end: Option<i64>, column: u32, low: &[i32], high: &[i32]) -> Option<(i32, i32)>
+    requires summed { AreSummed terms.now low.now high.now }
+    requires end { IfSome end (λ w. unsigned_abs w ≤ 2 * 10 ^ 18) }
+    requires column { column < length low.now }
+    requires occupied { is_empty (box_of low.now high.now) ≡ false }
+    ensures { IsLeft (spec.by_lower terms.now end column (box_of low.now high.now)) result }
+{
+    let place = column as usize;
+    let (least, most) = (low[place], high[place]);
+    match end {
+        Some(end) => {
+            let own = coefficient(terms, column);
+            let others = most_others(terms, low, high, column, own);
+            narrow(-own, others - end, least, most)
+        }
+        None => Some((least, most)),
+    }
+}
+
+// What an end of a row leaves of the interval of a column, None where it leaves no number.
 pub fn left_by(
     terms: &[(u32, i64)],
     ends: Ends,
@@ -120,22 +158,8 @@ pub fn left_by(
     requires occupied { is_empty (box_of low.now high.now) ≡ false }
     ensures { IsLeft (spec.left_by terms.now ends side column (box_of low.now high.now)) result }
 {
-    let place = column as usize;
-    let own = coefficient(terms, column);
     match side {
-        RowEnd::Lower => match ends.lower {
-            Some(end) => {
-                let others = most_others(terms, low, high, column, own);
-                narrow(-own, others - end, low[place], high[place])
-            }
-            None => Some((low[place], high[place])),
-        },
-        RowEnd::Upper => match ends.upper {
-            Some(end) => {
-                let others = least_others(terms, low, high, column, own);
-                narrow(own, end - others, low[place], high[place])
-            }
-            None => Some((low[place], high[place])),
-        },
+        RowEnd::Lower => by_lower(terms, ends.lower, column, low, high),
+        RowEnd::Upper => by_upper(terms, ends.upper, column, low, high),
     }
 }
