@@ -1,3 +1,4 @@
 pub mod ReplayLaws
 pub mod OtherTerms
 pub mod NarrowLemmas
+pub mod StepLemmas
