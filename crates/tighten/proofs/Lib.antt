@@ -2,3 +2,4 @@ pub mod ReplayLaws
 pub mod OtherTerms
 pub mod NarrowLemmas
 pub mod StepLemmas
+pub mod Examples

@@ -9,3 +9,6 @@ mod tightening;
 
 pub use tightening::{apply, replay};
 pub use step::{RowEnd, Step};
+
+#[cfg(test)]
+mod tests;
