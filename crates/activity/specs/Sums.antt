@@ -1,5 +1,5 @@
 -- What a row and a box need for their sums to stay within the limits.
-use Rattle.std.specs.Prelude.{◌≡◌, ℕ, ℤ, ◌≤◌, List, length, All}
+use Rattle.std.specs.Prelude.{◌≡◌, ℤ, ◌≤◌, List, length, All}
 use Rattle.int_model.specs.Limits.{IsBound}
 use Rattle.int_model.specs.Programs.{Terms, AreTerms}
 

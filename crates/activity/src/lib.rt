@@ -7,6 +7,8 @@ ghost use Rattle.int_model.specs.Boxes.{box_of};
 ghost use Rattle.int_model.specs.RowSums.{least_product, greatest_product, least_sum, greatest_sum};
 ghost use Rattle.activity.specs.Sums.{AreSummed};
 
+pub mod laws;
+
 // A coefficient times a bound.
 fn product(coefficient: i64, bound: i32) -> i64
     requires coefficient { IsEntry coefficient }
@@ -17,8 +19,8 @@ fn product(coefficient: i64, bound: i32) -> i64
     coefficient * i64::from(bound)
 }
 
-// The least product of a coefficient with a number of an interval that isn't empty.
-fn least_of(coefficient: i64, low: i32, high: i32) -> i64
+/// The least product of a coefficient with a number of an interval that isn't empty.
+pub fn least_of(coefficient: i64, low: i32, high: i32) -> i64
     requires coefficient { IsEntry coefficient }
     requires low { IsBound low }
     requires high { IsBound high }
@@ -28,8 +30,8 @@ fn least_of(coefficient: i64, low: i32, high: i32) -> i64
     product(coefficient, low).min(product(coefficient, high))
 }
 
-// The greatest product of a coefficient with a number of an interval that isn't empty.
-fn greatest_of(coefficient: i64, low: i32, high: i32) -> i64
+/// The greatest product of a coefficient with a number of an interval that isn't empty.
+pub fn greatest_of(coefficient: i64, low: i32, high: i32) -> i64
     requires coefficient { IsEntry coefficient }
     requires low { IsBound low }
     requires high { IsBound high }
@@ -66,3 +68,6 @@ pub fn most(terms: &[(u32, i64)], low: &[i32], high: &[i32]) -> i64
     }
     sum
 }
+
+#[cfg(test)]
+mod tests;

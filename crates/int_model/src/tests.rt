@@ -117,3 +117,16 @@ fn cuts_the_root_box(rt: HostRuntime) -> Result<(), Fail> {
     assert!(rt; above.contains(&[2, 0]));
     Ok(())
 }
+
+#[test]
+fn copies_and_widens(rt: HostRuntime) -> Result<(), Fail> {
+    let root = PointBox::from_ends(rt.alloc(), &[0, -2, 5], &[3, 1, 5])?;
+    let other = PointBox::from_ends(rt.alloc(), &[-1, 0, 7], &[2, 4, 9])?;
+    let mut wide = root.copy(rt.alloc())?;
+    assert_eq!(rt; wide.lows(), root.lows());
+    assert_eq!(rt; wide.highs(), root.highs());
+    wide.hull(&other);
+    assert_eq!(rt; wide.lows(), [-1, -2, 5].as_slice());
+    assert_eq!(rt; wide.highs(), [3, 4, 9].as_slice());
+    Ok(())
+}

@@ -1,0 +1,5 @@
+pub mod ReplayLaws
+pub mod OtherTerms
+pub mod NarrowLemmas
+pub mod StepLemmas
+pub mod Examples

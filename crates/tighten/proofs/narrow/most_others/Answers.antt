@@ -1,0 +1,22 @@
+use Rattle.std.proofs.Common.{rules, arith, ◌≡◌, ◌∙◌, ap, sym, ℤ, pos, ◌-ℤ◌, get_or, FitsSigned, w64, w32}
+use Rattle.std.proofs.lemmas.Int.{ints, to_z-of_z}
+use Rattle.int_model.specs.Boxes.{box_of, interval_at}
+use Rattle.int_model.specs.RowSums.{coefficient, without, greatest_product, greatest_sum}
+use Rattle.int_model.proofs.SideLemmas.{interval-at}
+use Rattle.tighten.proofs.OtherTerms.{greatest_sum-split}
+use Rattle.tighten.proofs.narrow.most_others.Goals as goal
+
+pub returns-clause-value : goal.returns-clause-value
+returns-clause-value c =
+    let j = c.args.column in
+    let sum_fits : FitsSigned w64 c.most.result = omega (arith, ints, c.most.ensures.limit) in
+    let own_fits : FitsSigned w64 c.greatest_of.result = omega (arith, ints, c.greatest_of.ensures.limit) in
+    let fits : FitsSigned w64 (c.most.result -ℤ c.greatest_of.result) = omega (arith, ints, c.most.ensures.limit, c.greatest_of.ensures.limit) in
+    let coefficient_fits : FitsSigned w64 c.args.coefficient = c.ranges.coefficient in
+    let low_fits : FitsSigned w32 (get_or c.args.low.now c.args.column (pos 0)) = search rules in
+    let high_fits : FitsSigned w32 (get_or c.args.high.now c.args.column (pos 0)) = search rules in
+    let own = simp to_z-of_z at c.greatest_of.ensures.value in
+    let at = interval-at c.args.low.now c.args.high.now c.args.column c.requires.summed.sides in
+    let same : greatest_product (coefficient j c.args.terms.now) (interval_at (box_of c.args.low.now c.args.high.now) j) ≡ greatest_product c.args.coefficient (record { low = get_or c.args.low.now j (pos 0); high = get_or c.args.high.now j (pos 0) }) =
+      ap (greatest_product (coefficient j c.args.terms.now)) at ∙ ap (λ (a : ℤ). greatest_product a (record { low = get_or c.args.low.now j (pos 0); high = get_or c.args.high.now j (pos 0) })) (sym c.requires.coefficient) in
+    simp to_z-of_z (omega (arith, ints, own, same, c.most.ensures.value, greatest_sum-split _ j c.args.terms.now (box_of c.args.low.now c.args.high.now) c.requires.summed.row))

@@ -1,0 +1,3 @@
+pub mod Replay
+pub mod Steps
+pub mod Laws
