@@ -1,0 +1,9 @@
+//! Scenarios of one integer model: what each changes, and the problem that they are.
+#![tactic(auto)]
+
+mod answer;
+mod change;
+mod error;
+
+pub use answer::{Answer, Answers};
+pub use error::ChangeError;
