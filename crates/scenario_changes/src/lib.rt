@@ -3,7 +3,9 @@
 
 mod answer;
 mod change;
+mod changes;
 mod error;
 
+pub use changes::Changes;
 pub use answer::{Answer, Answers};
 pub use error::ChangeError;
