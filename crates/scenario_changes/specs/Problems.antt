@@ -4,13 +4,14 @@ use Rattle.int_model.specs.Boxes.{Box, box_of, hull_of}
 use Rattle.int_model.specs.Programs.{Program, KeepsLimits, HasShape}
 use Rattle.int_model.specs.Ends.{ends_of, EndsWithin}
 use Rattle.int_model.specs.Models.{IntegerModel, minimized}
+use Rattle.int_model.specs.Models as models
 use Rattle.int_model.specs.Laws.{ValuesFit}
 use Rattle.int_model.specs.declared.model.Column.{Column}
 use Rattle.int_model.specs.declared.model.Row.{Row}
 use Rattle.int_model.specs.declared.model.Rhs.{Rhs}
 use Rattle.int_model.specs.declared.model.Rhs.TheVariants.{Value}
 use Rattle.int_model.specs.declared.model.Ends.{Ends}
-use Rattle.scenario_changes.specs.Changes.{Change, no_change, changed}
+use Rattle.scenario_changes.specs.Changes.{Change, no_change, changed, ChangeSet, IsChangeSet, Fits}
 
 -- one or more scenarios over the same columns and rows
 pub record Problem : Type 0 where
@@ -47,6 +48,16 @@ scenario_of m c = record {
   ends = row_ends_of m c;
 }
 
+-- what of a scenario's program is its own
+pub record Numbers : Type 0 where
+  pub costs : List ℤ
+  pub lows : List ℤ
+  pub highs : List ℤ
+  pub ends : List Ends
+
+abbrev pub numbers_of : IntegerModel → Change → Numbers
+numbers_of m c = record { costs = costs_of m c; lows = lows_of m c; highs = highs_of m c; ends = row_ends_of m c }
+
 -- ---- all scenarios
 
 -- the scenarios that are solved: with none, the base alone
@@ -73,6 +84,13 @@ pub record Scenarios : Type 0 where
 
 abbrev pub problem : Scenarios → Problem
 problem p = problem_of p.model p.changes
+
+-- a model and changes that fit it, beside the numbers of each scenario
+pub record IsPosed (m : IntegerModel) (c : ChangeSet) (kept : List Numbers) : Type 0 where
+  pub limits : models.KeepsLimits m
+  pub changes : IsChangeSet c
+  pub fits : Fits c m
+  pub numbers : kept ≡ map (numbers_of m) (solved m c.scenarios)
 
 -- ---- limits
 

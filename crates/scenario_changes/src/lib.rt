@@ -5,6 +5,7 @@ mod answer;
 mod change;
 mod changes;
 mod error;
+mod numbers;
 
 pub use changes::Changes;
 pub use answer::{Answer, Answers};
