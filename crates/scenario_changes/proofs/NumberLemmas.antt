@@ -19,7 +19,7 @@ pub one-more : {A : Type 0} (done new rest left whole : List A) (y z : A) → do
 one-more done new rest left whole y z before is same made =
     ap (λ ys. ys ++ left) made ∙ append_assoc done (y ∷ []) left ∙ ap (λ x. done ++ x ∷ left) same ∙ sym (ap (λ ys. done ++ ys) is) ∙ before
 
-at-place : {X : Type 0} (xs : List X) (i : ℕ) (x : X) → i < length xs → slice_get xs i ≡ Some x → drop i xs ≡ x ∷ drop (i + 1) xs
+pub at-place : {X : Type 0} (xs : List X) (i : ℕ) (x : X) → i < length xs → slice_get xs i ≡ Some x → drop i xs ≡ x ∷ drop (i + 1) xs
 at-place xs i x h at = drop_more xs i x h ∙ ap (λ y. y ∷ drop (i + 1) xs) (get_or_from_slice_get xs i x x at)
 
 -- the first of what is left

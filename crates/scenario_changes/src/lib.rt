@@ -5,6 +5,7 @@ mod answer;
 mod change;
 mod changes;
 mod error;
+mod feasible;
 mod numbers;
 
 pub use changes::Changes;
