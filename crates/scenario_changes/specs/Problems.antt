@@ -1,5 +1,6 @@
 -- The problem of a base model and its scenarios: an integer program for each.
-use Rattle.std.specs.Prelude.{◌≡◌, ℕ, ◌<◌, ◌≤◌, ◌*◌, ◌^◌, ℤ, pos, List, [], ◌∷◌, length, map, slice_index_or, All}
+use Rattle.std.specs.Prelude.{◌≡◌, ℕ, ◌<◌, ◌≤◌, ◌*◌, ◌^◌, ℤ, pos, List, [], ◌∷◌, length, map, slice_index_or, All, Option}
+use Rattle.std.specs.Int.{int_min, int_max}
 use Rattle.int_model.specs.Boxes.{Box, box_of, hull_of}
 use Rattle.int_model.specs.Programs.{Program, KeepsLimits, HasShape}
 use Rattle.int_model.specs.Ends.{ends_of, EndsWithin}
@@ -77,6 +78,17 @@ abbrev pub root_box : List Program → Box
 root_box [] = []
 root_box (s ∷ ss) = hull_of s.bounds (map (λ (t : Program). t.bounds) ss)
 
+-- the lesser and the greater of two lists' numbers, place by place
+abbrev pub lesser : List ℤ → List ℤ → List ℤ
+lesser (a ∷ xs) (b ∷ ys) = int_min a b ∷ lesser xs ys
+lesser (a ∷ xs) [] = []
+lesser [] ys = []
+
+abbrev pub greater : List ℤ → List ℤ → List ℤ
+greater (a ∷ xs) (b ∷ ys) = int_max a b ∷ greater xs ys
+greater (a ∷ xs) [] = []
+greater [] ys = []
+
 -- a base model, and what each scenario changes of it
 pub record Scenarios : Type 0 where
   pub model : IntegerModel
@@ -84,6 +96,10 @@ pub record Scenarios : Type 0 where
 
 abbrev pub problem : Scenarios → Problem
 problem p = problem_of p.model p.changes
+
+-- the name of scenario s, which the base alone doesn't have
+abbrev pub name_at : Scenarios → ℕ → Option (List ℕ)
+name_at p s = (slice_index_or (solved p.model p.changes) s (no_change 0 0)).name
 
 -- a model and changes that fit it, beside the numbers of each scenario
 pub record IsPosed (m : IntegerModel) (c : ChangeSet) (kept : List Numbers) : Type 0 where

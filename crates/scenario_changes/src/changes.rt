@@ -190,6 +190,14 @@ impl Changes {
         self.scenarios.len() as u32
     }
 
+    /// What each scenario changes.
+    pub(crate) fn scenarios(&self) -> &[ScenarioChange]
+        ensures value { result.now ≡ self.now.scenarios }
+        ensures limits { IsChangeSet self.now }
+    {
+        &self.scenarios
+    }
+
     /// The scenario that is selected, 0 where there are none.
     pub fn selected(&self) -> u32
         ensures { result ≡ self.now.selected }

@@ -7,7 +7,10 @@ mod changes;
 mod error;
 mod feasible;
 mod numbers;
+mod problem;
+mod root;
 
 pub use changes::Changes;
 pub use answer::{Answer, Answers};
 pub use error::ChangeError;
+pub use problem::Problem;

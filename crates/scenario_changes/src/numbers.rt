@@ -69,8 +69,8 @@ impl ScenarioNumbers {
     }
 }
 
-// A number in the form that is minimised.
-fn minimized(direction: Direction, value: i64) -> i64
+/// A number in the form that is minimised.
+pub(crate) fn minimized(direction: Direction, value: i64) -> i64
     requires { unsigned_abs value ≤ 10 ^ 15 }
     ensures { result ≡ models.minimized direction value }
 {
