@@ -1,0 +1,5 @@
+pub mod ChangeLemmas
+pub mod NumberLemmas
+pub mod SumLemmas
+pub mod ProblemLaws
+pub mod RootLemmas

@@ -1,0 +1,22 @@
+use Rattle.std.proofs.Common.{◌∙◌, ◌≡◌, ap, sym, subst, length, map, ℤ, List}
+use Rattle.std.specs.List.{All}
+use Rattle.int_model.specs.Limits.{IsBound}
+use Rattle.int_model.specs.Boxes.{Box, Interval}
+use Rattle.int_model.proofs.SideLemmas.{map-highs}
+use Rattle.scenario_changes.proofs.ProblemLaws.{chosen, IsChosen}
+use Rattle.scenario_changes.proofs.problem.Problem.highs.Goals as goal
+
+facts : (c : goal.After-highs) → IsChosen c.args.self.now c.args.s c.index.result.now
+facts c = chosen _ _ _ c.args.self.now c.args.s _ c.self.invariant c.self.view_is c.requires c.index.ensures
+
+pub returns-clause-value : goal.returns-clause-value
+returns-clause-value c =
+    let n = c.index.result.now in
+    let same : length n.lows ≡ length n.highs = (facts c).low_count ∙ sym (facts c).high_count in
+    c.highs.ensures ∙ sym (map-highs n.lows n.highs same) ∙ ap (λ (b : Box). map (λ (i : Interval). i.high) b) (facts c).bounds
+
+pub returns-clause-count : goal.returns-clause-count
+returns-clause-count c = ap length c.highs.ensures ∙ (facts c).high_count
+
+pub returns-clause-limits : goal.returns-clause-limits
+returns-clause-limits c = subst (λ (xs : List ℤ). All IsBound xs) (sym c.highs.ensures) (facts c).small_highs
