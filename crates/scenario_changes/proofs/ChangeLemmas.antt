@@ -189,13 +189,13 @@ pub take-resized : (cs : List Change) (n : ℕ) (d : Change) → take n (cs ++ r
 take-resized cs n d =
     elim (cases_Bool (nat_le n (length cs))) [
       | inl e ↦
-        let small : n ≤ length cs = grind (arith, e) in
-        let none : n - length cs ≡ 0 = omega (arith, small) in
-        rw none (take-append-le n cs [] small ∙ sym (append-nil (take n cs)))
+          let small : n ≤ length cs = grind (arith, e) in
+          let none : n - length cs ≡ 0 = omega (arith, small) in
+          rw none (take-append-le n cs [] small ∙ sym (append-nil (take n cs)))
       | inr e ↦
-        let large : length cs ≤ n = grind (arith, e) in
-        let total : length (cs ++ replicate (n - length cs) d) ≤ n = simp (length-append, length-replicate) (omega (arith, large)) in
-        take_all n (cs ++ replicate (n - length cs) d) total ∙ ap (λ (xs : List Change). xs ++ replicate (n - length cs) d) (sym (take_all n cs large))
+          let large : length cs ≤ n = grind (arith, e) in
+          let total : length (cs ++ replicate (n - length cs) d) ≤ n = simp (length-append, length-replicate) (omega (arith, large)) in
+          take_all n (cs ++ replicate (n - length cs) d) total ∙ ap (λ (xs : List Change). xs ++ replicate (n - length cs) d) (sym (take_all n cs large))
     ]
 
 resized-good : (c : ChangeSet) (n : ℕ) → IsChangeSet c → n ≤ 64 → IsChangeSet (with_number c n)
@@ -233,6 +233,7 @@ shapes-step P shapes rows i d row a b here is both =
     let read : slice_index_or rows i row ≡ row = get_or_from_slice_get rows i row row here in
     let left : drop i shapes ≡ shape_of row ∷ drop (i + 1) shapes = drop_more shapes i d a ∙ ap (λ (x : RowShape). x ∷ drop (i + 1) shapes) is in
     let right : map shape_of (drop i rows) ≡ shape_of row ∷ map shape_of (drop (i + 1) rows) =
-      ap (map shape_of) (drop_more rows i row b) ∙ ap (λ (r : Row). shape_of r ∷ map shape_of (drop (i + 1) rows)) read in
-    (λ p. same-rest (shape_of row) (drop (i + 1) shapes) (map shape_of (drop (i + 1) rows)) (sym left ∙ both.0 p ∙ right),
-     λ q. both.1 (left ∙ ap (λ (xs : List RowShape). shape_of row ∷ xs) q ∙ sym right))
+    ap (map shape_of) (drop_more rows i row b) ∙ ap (λ (r : Row). shape_of r ∷ map shape_of (drop (i + 1) rows)) read in (
+      λ p. same-rest (shape_of row) (drop (i + 1) shapes) (map shape_of (drop (i + 1) rows)) (sym left ∙ both.0 p ∙ right),
+      λ q. both.1 (left ∙ ap (λ (xs : List RowShape). shape_of row ∷ xs) q ∙ sym right),
+    )

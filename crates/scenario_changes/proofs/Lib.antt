@@ -3,3 +3,4 @@ pub mod NumberLemmas
 pub mod SumLemmas
 pub mod ProblemLaws
 pub mod RootLemmas
+pub mod ChangeExamples

@@ -27,7 +27,6 @@ pub peel-changed : {X A : Type 0} (f : X → A) (xs : List X) (cs : List (Option
 peel-changed f xs cs i x d h k at =
     ap (λ ys. changed (map f ys) (drop i cs)) (at-place xs i x h at) ∙ ap (λ ds. changed (f x ∷ map f (drop (i + 1) xs)) ds) (drop_more cs i d k)
 
-
 pub peel-ends : (rows : List Row) (cs : List (Option Rhs)) (i : ℕ) (row : Row) (d : Option Rhs) → i < length rows → i < length cs → slice_get rows i ≡ Some row → ends_of_rows (drop i rows) (changed (map (λ (r : Row). Value r.rhs) (drop i rows)) (drop i cs)) ≡ ends_of row (unwrap_or (slice_index_or cs i d) (Value row.rhs)) ∷ ends_of_rows (drop (i + 1) rows) (changed (map (λ (r : Row). Value r.rhs) (drop (i + 1) rows)) (drop (i + 1) cs))
 peel-ends rows cs i row d h k at =
     ap (λ (rs : List Row). ends_of_rows rs (changed (map (λ (r : Row). Value r.rhs) rs) (drop i cs))) (at-place rows i row h at)

@@ -261,5 +261,5 @@ pub made-feasible : (p : Scenarios) (s : ℕ) (lows highs x : List ℤ) (ends : 
 made-feasible p s lows highs x ends rows e r h m = record {
   within = subst (λ (box : Box). InBox box x) (bounds-read p s lows highs r.lows_are r.highs_are) h;
   rows = subst (λ (es : List Ends). MeetsRows (program_at (problem p) s).rows es x) r.ends_are
-    (subst (λ (ts : List Terms). MeetsRows ts ends x) (ap (λ (rs : List Row). map (λ (i : Row). i.terms) rs) e ∙ sym (rows-at p s r.scenario)) m);
+      (subst (λ (ts : List Terms). MeetsRows ts ends x) (ap (λ (rs : List Row). map (λ (i : Row). i.terms) rs) e ∙ sym (rows-at p s r.scenario)) m);
 }

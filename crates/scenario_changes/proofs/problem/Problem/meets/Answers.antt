@@ -24,6 +24,7 @@ pub returns : goal.returns
 returns c =
     let rows : c.model.result.now.rows ≡ c.args.self.now.model.rows = ap (λ (m : IntegerModel). m.rows) c.model.ensures in
     let inside : InBox (box_of c.lows.result.now c.highs.result.now) c.args.x.now = c.if-not-lies_within.ensures.0 refl in
-    let read : IsRead c.args.self.now c.args.s c.lows.result.now c.highs.result.now c.ends.result.now = record { scenario = c.requires; lows_are = c.lows.ensures.value; highs_are = c.highs.ensures.value; ends_are = c.ends.ensures.value } in
-    (λ e. made-feasible c.args.self.now c.args.s _ _ c.args.x.now _ c.model.result.now.rows rows read inside (c.meets_rows.ensures.0 e),
-     λ f. c.meets_rows.ensures.1 (feasible-rows c.args.self.now c.args.s _ _ c.args.x.now _ c.model.result.now.rows rows read f))
+    let read : IsRead c.args.self.now c.args.s c.lows.result.now c.highs.result.now c.ends.result.now = record { scenario = c.requires; lows_are = c.lows.ensures.value; highs_are = c.highs.ensures.value; ends_are = c.ends.ensures.value } in (
+      λ e. made-feasible c.args.self.now c.args.s _ _ c.args.x.now _ c.model.result.now.rows rows read inside (c.meets_rows.ensures.0 e),
+      λ f. c.meets_rows.ensures.1 (feasible-rows c.args.self.now c.args.s _ _ c.args.x.now _ c.model.result.now.rows rows read f),
+    )
