@@ -1,16 +1,15 @@
 -- Worked examples, by computing.
-use Rattle.std.specs.Prelude.{◌≡◌, ℕ, ℤ, pos, negsuc, true, false, List, [], ◌∷◌, length, Some, None, refl}
+use Rattle.std.specs.Prelude.{◌≡◌, pos, negsuc, true, false, [], ◌∷◌, length, Some, None, refl}
 use Rattle.std.proofs.Common.{rules}
 use Rattle.int_model.specs.Boxes.{box_of}
-use Rattle.int_model.specs.Programs.{Program, Feasible, value}
+use Rattle.int_model.specs.Programs.{Feasible, value}
 use Rattle.int_model.specs.Models.{IntegerModel}
-use Rattle.int_model.specs.declared.model.RowSense.TheVariants.{L, G, E}
+use Rattle.int_model.specs.declared.model.RowSense.TheVariants.{L, E}
 use Rattle.int_model.specs.declared.model.Rhs.TheVariants.{Value, Inf, MinusInf}
 use Rattle.int_model.specs.declared.model.Direction.TheVariants.{Min, Max}
-use Rattle.scenario_changes.specs.Changes.{Change, ChangeSet, no_change, changed, resized, with_cost, with_number, may_have, is_name}
+use Rattle.scenario_changes.specs.Changes.{Change, ChangeSet, no_change, changed, resized, with_cost, with_number, is_name}
 use Rattle.scenario_changes.specs.Refusals.{column_refusal, rhs_refusal, select_refusal}
-use Rattle.scenario_changes.specs.Problems.{scenario_of, problem_of, solved, root_box, name_at}
-use Rattle.scenario_changes.specs.declared.change.RowShape.{RowShape}
+use Rattle.scenario_changes.specs.Problems.{scenario_of, problem_of, root_box, name_at}
 use Rattle.scenario_changes.specs.declared.error.ChangeError.TheVariants.{NoScenario, UnknownColumn, UnknownRow, Magnitude, BadRemoval}
 
 -- min -3x - 2y + 10, 2x + y ≤ 4, x and y in 0..3

@@ -1,9 +1,6 @@
 -- Settings keep what changes are known to be.
-use Rattle.std.specs.Prelude.{◌≡◌, ℕ, zero, suc, ◌<◌, ◌≤◌, ◌^◌, ◌-◌, ◌++◌, ℤ, Bool, true, false, not, nat_le, nat_eq, List, [], ◌∷◌, length, take, drop, ◌+◌, ◌↔◌, map, slice_get, replicate, slice_set, slice_index_or, Option, Some, None, IfSome, max, refl}
-use Rattle.std.specs.List.{All}
-use Rattle.std.proofs.Common.{arith, rules, ap, sym, ◌∙◌, subst, inl, inr}
-use Rattle.std.proofs.lemmas.Int.{ints}
-use Rattle.std.proofs.lemmas.Grind.{common_steps}
+use Rattle.std.specs.Prelude.{◌≡◌, ℕ, zero, suc, ◌<◌, ◌≤◌, ◌^◌, ◌-◌, ◌++◌, ℤ, true, false, nat_le, List, [], ◌∷◌, length, take, drop, ◌+◌, ◌↔◌, map, slice_get, replicate, slice_set, slice_index_or, Option, Some, None, IfSome, max, refl}
+use Rattle.std.proofs.Common.{arith, ap, sym, ◌∙◌, subst, inl, inr}
 use Rattle.std.proofs.lemmas.List.{length-set, length-append, length-replicate, length-take, get_or_default, take-append-le, take_all, map_more, drop_more, append-nil}
 use Rattle.std.proofs.lemmas.Option.{get_or_from_slice_get}
 use Rattle.std.proofs.lemmas.Bool.{cases_Bool}
@@ -13,8 +10,8 @@ use Rattle.int_model.specs.Build.{side_exceeds}
 use Rattle.int_model.specs.declared.model.Row.{Row}
 use Rattle.int_model.specs.declared.model.Rhs.{Rhs}
 use Rattle.int_model.specs.declared.model.RowSense.TheVariants.{E}
-use Rattle.scenario_changes.specs.Changes.{Change, ChangeSet, IsChange, IsChangeSet, AreSides, no_change, selected_change, with_selected, with_cost, with_low, with_high, with_rhs, with_name, with_number, resized, shape_of, rhs_exceeds, may_have, is_name}
-use Rattle.scenario_changes.specs.Refusals.{column_refusal, rhs_refusal, name_refusal, shape_at}
+use Rattle.scenario_changes.specs.Changes.{Change, ChangeSet, IsChange, IsChangeSet, AreSides, no_change, selected_change, with_selected, with_number, resized, shape_of, rhs_exceeds, may_have}
+use Rattle.scenario_changes.specs.Refusals.{column_refusal, rhs_refusal, shape_at}
 use Rattle.scenario_changes.specs.declared.change.RowShape.{RowShape}
 
 -- ---- one scenario
@@ -77,19 +74,6 @@ rhs-kept n rows c i d v k e m = record {
   lows = k.lows;
   highs = k.highs;
   rhs = sides-set rows c.rhs i d v k.rhs e m;
-}
-
-pub name-kept : (n : ℕ) (rows : List RowShape) (c : Change) (name : Option (List ℕ)) → IsChange n rows c → IfSome name (λ m. is_name m ≡ true) → IsChange n rows (record c { name = name })
-name-kept n rows c name k h = record {
-  name = h;
-  cost_count = k.cost_count;
-  low_count = k.low_count;
-  high_count = k.high_count;
-  rhs_count = k.rhs_count;
-  costs = k.costs;
-  lows = k.lows;
-  highs = k.highs;
-  rhs = k.rhs;
 }
 
 -- ---- the selected scenario

@@ -4,3 +4,4 @@ pub mod SumLemmas
 pub mod ProblemLaws
 pub mod RootLemmas
 pub mod ChangeExamples
+pub mod AnswerExamples

@@ -1,5 +1,5 @@
 -- The numbers of a scenario, one place after another.
-use Rattle.std.specs.Prelude.{◌≡◌, ℕ, zero, suc, ◌+◌, ◌<◌, ℤ, Bool, true, false, not, List, [], ◌∷◌, ◌++◌, length, map, drop, slice_get, slice_index_or, Option, Some, None, is_none, is_some, unwrap_or, IfSome, refl, IsTrue}
+use Rattle.std.specs.Prelude.{◌≡◌, ℕ, zero, suc, ◌+◌, ◌<◌, true, false, List, [], ◌∷◌, ◌++◌, length, map, drop, slice_get, slice_index_or, Option, Some, None, unwrap_or, refl}
 use Rattle.std.proofs.Common.{arith, ap, sym, ◌∙◌, subst, append_assoc}
 use Rattle.std.proofs.lemmas.List.{drop_more, length-map}
 use Rattle.std.proofs.lemmas.Option.{get_or_from_slice_get}
@@ -9,7 +9,6 @@ use Rattle.int_model.specs.Models.{IntegerModel}
 use Rattle.int_model.specs.declared.model.Row.{Row}
 use Rattle.int_model.specs.declared.model.Rhs.{Rhs}
 use Rattle.int_model.specs.declared.model.Rhs.TheVariants.{Value, Inf, MinusInf}
-use Rattle.int_model.specs.declared.model.Ends.{Ends}
 use Rattle.scenario_changes.specs.Changes.{Change, changed, shape_of, AreSides, IsChange, no_change, rhs_exceeds, may_have}
 use Rattle.scenario_changes.specs.Problems.{ends_of_rows}
 use Rattle.scenario_changes.proofs.ChangeLemmas.{no_change-good}

@@ -1,7 +1,6 @@
 use Rattle.std.proofs.Common.{refl, ◌≡◌, ◌∙◌, ap, sym, length}
 use Rattle.int_model.specs.Boxes.{InBox, box_of}
 use Rattle.int_model.specs.Models.{IntegerModel}
-use Rattle.int_model.specs.declared.model.Row.{Row}
 use Rattle.int_model.proofs.BoxLaws.{length-InBox, length-box_of}
 use Rattle.scenario_changes.proofs.ProblemLaws.{IsRead, point-small, feasible-within, feasible-rows, made-feasible}
 use Rattle.scenario_changes.proofs.problem.Problem.meets.Goals as goal
