@@ -1,9 +1,6 @@
 -- Settings keep what changes are known to be.
-use Rattle.std.specs.Prelude.{◌≡◌, ℕ, zero, suc, ◌<◌, ◌≤◌, ◌^◌, ◌-◌, ◌++◌, ℤ, Bool, true, false, not, nat_le, nat_eq, List, [], ◌∷◌, length, take, drop, ◌+◌, ◌↔◌, map, slice_get, replicate, slice_set, slice_index_or, Option, Some, None, IfSome, max, refl}
-use Rattle.std.specs.List.{All}
-use Rattle.std.proofs.Common.{arith, rules, ap, sym, ◌∙◌, subst, inl, inr}
-use Rattle.std.proofs.lemmas.Int.{ints}
-use Rattle.std.proofs.lemmas.Grind.{common_steps}
+use Rattle.std.specs.Prelude.{◌≡◌, ℕ, zero, suc, ◌<◌, ◌≤◌, ◌^◌, ◌-◌, ◌++◌, ℤ, true, false, nat_le, List, [], ◌∷◌, length, take, drop, ◌+◌, ◌↔◌, map, slice_get, replicate, slice_set, slice_index_or, Option, Some, None, IfSome, max, refl}
+use Rattle.std.proofs.Common.{arith, ap, sym, ◌∙◌, subst, inl, inr}
 use Rattle.std.proofs.lemmas.List.{length-set, length-append, length-replicate, length-take, get_or_default, take-append-le, take_all, map_more, drop_more, append-nil}
 use Rattle.std.proofs.lemmas.Option.{get_or_from_slice_get}
 use Rattle.std.proofs.lemmas.Bool.{cases_Bool}
@@ -13,8 +10,8 @@ use Rattle.int_model.specs.Build.{side_exceeds}
 use Rattle.int_model.specs.declared.model.Row.{Row}
 use Rattle.int_model.specs.declared.model.Rhs.{Rhs}
 use Rattle.int_model.specs.declared.model.RowSense.TheVariants.{E}
-use Rattle.scenario_changes.specs.Changes.{Change, ChangeSet, IsChange, IsChangeSet, AreSides, no_change, selected_change, with_selected, with_cost, with_low, with_high, with_rhs, with_name, with_number, resized, shape_of, rhs_exceeds, may_have, is_name}
-use Rattle.scenario_changes.specs.Refusals.{column_refusal, rhs_refusal, name_refusal, shape_at}
+use Rattle.scenario_changes.specs.Changes.{Change, ChangeSet, IsChange, IsChangeSet, AreSides, no_change, selected_change, with_selected, with_number, resized, shape_of, rhs_exceeds, may_have}
+use Rattle.scenario_changes.specs.Refusals.{column_refusal, rhs_refusal, shape_at}
 use Rattle.scenario_changes.specs.declared.change.RowShape.{RowShape}
 
 -- ---- one scenario
@@ -77,19 +74,6 @@ rhs-kept n rows c i d v k e m = record {
   lows = k.lows;
   highs = k.highs;
   rhs = sides-set rows c.rhs i d v k.rhs e m;
-}
-
-pub name-kept : (n : ℕ) (rows : List RowShape) (c : Change) (name : Option (List ℕ)) → IsChange n rows c → IfSome name (λ m. is_name m ≡ true) → IsChange n rows (record c { name = name })
-name-kept n rows c name k h = record {
-  name = h;
-  cost_count = k.cost_count;
-  low_count = k.low_count;
-  high_count = k.high_count;
-  rhs_count = k.rhs_count;
-  costs = k.costs;
-  lows = k.lows;
-  highs = k.highs;
-  rhs = k.rhs;
 }
 
 -- ---- the selected scenario
@@ -189,13 +173,13 @@ pub take-resized : (cs : List Change) (n : ℕ) (d : Change) → take n (cs ++ r
 take-resized cs n d =
     elim (cases_Bool (nat_le n (length cs))) [
       | inl e ↦
-        let small : n ≤ length cs = grind (arith, e) in
-        let none : n - length cs ≡ 0 = omega (arith, small) in
-        rw none (take-append-le n cs [] small ∙ sym (append-nil (take n cs)))
+          let small : n ≤ length cs = grind (arith, e) in
+          let none : n - length cs ≡ 0 = omega (arith, small) in
+          rw none (take-append-le n cs [] small ∙ sym (append-nil (take n cs)))
       | inr e ↦
-        let large : length cs ≤ n = grind (arith, e) in
-        let total : length (cs ++ replicate (n - length cs) d) ≤ n = simp (length-append, length-replicate) (omega (arith, large)) in
-        take_all n (cs ++ replicate (n - length cs) d) total ∙ ap (λ (xs : List Change). xs ++ replicate (n - length cs) d) (sym (take_all n cs large))
+          let large : length cs ≤ n = grind (arith, e) in
+          let total : length (cs ++ replicate (n - length cs) d) ≤ n = simp (length-append, length-replicate) (omega (arith, large)) in
+          take_all n (cs ++ replicate (n - length cs) d) total ∙ ap (λ (xs : List Change). xs ++ replicate (n - length cs) d) (sym (take_all n cs large))
     ]
 
 resized-good : (c : ChangeSet) (n : ℕ) → IsChangeSet c → n ≤ 64 → IsChangeSet (with_number c n)
@@ -233,6 +217,7 @@ shapes-step P shapes rows i d row a b here is both =
     let read : slice_index_or rows i row ≡ row = get_or_from_slice_get rows i row row here in
     let left : drop i shapes ≡ shape_of row ∷ drop (i + 1) shapes = drop_more shapes i d a ∙ ap (λ (x : RowShape). x ∷ drop (i + 1) shapes) is in
     let right : map shape_of (drop i rows) ≡ shape_of row ∷ map shape_of (drop (i + 1) rows) =
-      ap (map shape_of) (drop_more rows i row b) ∙ ap (λ (r : Row). shape_of r ∷ map shape_of (drop (i + 1) rows)) read in
-    (λ p. same-rest (shape_of row) (drop (i + 1) shapes) (map shape_of (drop (i + 1) rows)) (sym left ∙ both.0 p ∙ right),
-     λ q. both.1 (left ∙ ap (λ (xs : List RowShape). shape_of row ∷ xs) q ∙ sym right))
+    ap (map shape_of) (drop_more rows i row b) ∙ ap (λ (r : Row). shape_of r ∷ map shape_of (drop (i + 1) rows)) read in (
+      λ p. same-rest (shape_of row) (drop (i + 1) shapes) (map shape_of (drop (i + 1) rows)) (sym left ∙ both.0 p ∙ right),
+      λ q. both.1 (left ∙ ap (λ (xs : List RowShape). shape_of row ∷ xs) q ∙ sym right),
+    )

@@ -3,3 +3,5 @@ pub mod NumberLemmas
 pub mod SumLemmas
 pub mod ProblemLaws
 pub mod RootLemmas
+pub mod ChangeExamples
+pub mod AnswerExamples

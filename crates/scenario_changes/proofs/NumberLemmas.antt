@@ -1,5 +1,5 @@
 -- The numbers of a scenario, one place after another.
-use Rattle.std.specs.Prelude.{◌≡◌, ℕ, zero, suc, ◌+◌, ◌<◌, ℤ, Bool, true, false, not, List, [], ◌∷◌, ◌++◌, length, map, drop, slice_get, slice_index_or, Option, Some, None, is_none, is_some, unwrap_or, IfSome, refl, IsTrue}
+use Rattle.std.specs.Prelude.{◌≡◌, ℕ, zero, suc, ◌+◌, ◌<◌, true, false, List, [], ◌∷◌, ◌++◌, length, map, drop, slice_get, slice_index_or, Option, Some, None, unwrap_or, refl}
 use Rattle.std.proofs.Common.{arith, ap, sym, ◌∙◌, subst, append_assoc}
 use Rattle.std.proofs.lemmas.List.{drop_more, length-map}
 use Rattle.std.proofs.lemmas.Option.{get_or_from_slice_get}
@@ -9,7 +9,6 @@ use Rattle.int_model.specs.Models.{IntegerModel}
 use Rattle.int_model.specs.declared.model.Row.{Row}
 use Rattle.int_model.specs.declared.model.Rhs.{Rhs}
 use Rattle.int_model.specs.declared.model.Rhs.TheVariants.{Value, Inf, MinusInf}
-use Rattle.int_model.specs.declared.model.Ends.{Ends}
 use Rattle.scenario_changes.specs.Changes.{Change, changed, shape_of, AreSides, IsChange, no_change, rhs_exceeds, may_have}
 use Rattle.scenario_changes.specs.Problems.{ends_of_rows}
 use Rattle.scenario_changes.proofs.ChangeLemmas.{no_change-good}
@@ -26,7 +25,6 @@ at-place xs i x h at = drop_more xs i x h ∙ ap (λ y. y ∷ drop (i + 1) xs) (
 pub peel-changed : {X A : Type 0} (f : X → A) (xs : List X) (cs : List (Option A)) (i : ℕ) (x : X) (d : Option A) → i < length xs → i < length cs → slice_get xs i ≡ Some x → changed (map f (drop i xs)) (drop i cs) ≡ unwrap_or (slice_index_or cs i d) (f x) ∷ changed (map f (drop (i + 1) xs)) (drop (i + 1) cs)
 peel-changed f xs cs i x d h k at =
     ap (λ ys. changed (map f ys) (drop i cs)) (at-place xs i x h at) ∙ ap (λ ds. changed (f x ∷ map f (drop (i + 1) xs)) ds) (drop_more cs i d k)
-
 
 pub peel-ends : (rows : List Row) (cs : List (Option Rhs)) (i : ℕ) (row : Row) (d : Option Rhs) → i < length rows → i < length cs → slice_get rows i ≡ Some row → ends_of_rows (drop i rows) (changed (map (λ (r : Row). Value r.rhs) (drop i rows)) (drop i cs)) ≡ ends_of row (unwrap_or (slice_index_or cs i d) (Value row.rhs)) ∷ ends_of_rows (drop (i + 1) rows) (changed (map (λ (r : Row). Value r.rhs) (drop (i + 1) rows)) (drop (i + 1) cs))
 peel-ends rows cs i row d h k at =

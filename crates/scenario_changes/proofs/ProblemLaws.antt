@@ -1,14 +1,13 @@
 -- Each scenario's program keeps the limits, and is read from the numbers that are kept of it.
-use Rattle.std.specs.Prelude.{◌≡◌, ℕ, zero, suc, ◌+◌, ◌*◌, ◌<◌, ◌≤◌, ◌^◌, ℤ, pos, ◌≤ℤ◌, unsigned_abs, List, [], ◌∷◌, length, map, max, slice_index_or, Option, Some, None, unwrap_or, IfSome, true, refl}
+use Rattle.std.specs.Prelude.{◌≡◌, ℕ, suc, ◌*◌, ◌<◌, ◌≤◌, ◌^◌, ℤ, pos, ◌≤ℤ◌, unsigned_abs, List, [], ◌∷◌, length, map, max, slice_index_or, Option, Some, None, unwrap_or, IfSome, refl}
 use Rattle.std.specs.List.{All}
 use Rattle.std.proofs.Common.{arith, ap, sym, ◌∙◌, subst}
 use Rattle.std.proofs.lemmas.Int.{ints}
-use Rattle.std.proofs.lemmas.List.{length-map, get_or-map, get_or_default}
+use Rattle.std.proofs.lemmas.List.{length-map, get_or-map}
 use Rattle.std.proofs.lemmas.List.Elements.{All-nil, All-cons, All-head, All-rest}
 use Rattle.int_model.specs.Limits.{IsBound, IsEntry, IsSide}
 use Rattle.int_model.specs.Boxes.{Box, Interval, InBox, box_of}
-use Rattle.int_model.specs.Sides as sides
-use Rattle.int_model.specs.Programs.{Program, Terms, CostsWithin, KeepsLimits, HasShape, Feasible, MeetsRows}
+use Rattle.int_model.specs.Programs.{Program, Terms, CostsWithin, KeepsLimits, Feasible, MeetsRows}
 use Rattle.int_model.specs.Ends.{ends_of, EndsWithin}
 use Rattle.int_model.specs.Models.{IntegerModel, IsColumn, IsRow, minimized}
 use Rattle.int_model.specs.Models as models
@@ -25,9 +24,8 @@ use Rattle.int_model.proofs.LimitLaws.{values-fit}
 use Rattle.int_model.proofs.ModelLaws.{rows-within, rows-below}
 use Rattle.int_model.proofs.SideLemmas.{sides-within}
 use Rattle.scenario_changes.specs.Changes.{Change, ChangeSet, IsChange, IsChangeSet, AreSides, Fits, changed, no_change, shape_of}
-use Rattle.scenario_changes.specs.Problems.{Problem, Numbers, Scenarios, IsPosed, IsWithin, AreWithin, ends_of_rows, costs_of, lows_of, highs_of, row_ends_of, scenario_of, numbers_of, solved, problem_of, problem, program_at, name_at}
-use Rattle.scenario_changes.proofs.ChangeLemmas.{no_change-good}
-use Rattle.scenario_changes.proofs.NumberLemmas.{IsSideOf, CanStand, can-stand, base-good}
+use Rattle.scenario_changes.specs.Problems.{Numbers, Scenarios, IsPosed, IsWithin, AreWithin, ends_of_rows, costs_of, lows_of, highs_of, scenario_of, numbers_of, solved, problem_of, problem, program_at}
+use Rattle.scenario_changes.proofs.NumberLemmas.{CanStand, can-stand, base-good}
 
 -- ---- changed values
 
@@ -189,13 +187,6 @@ of-change m cs s d n k h is same =
       small_highs = subst (λ (i : Numbers). All IsBound i.highs) (sym same) fits.small_highs;
     }
 
-pub in-kept : (m : IntegerModel) (c : ChangeSet) (kept : List Numbers) (p : Scenarios) (s : ℕ) → IsPosed m c kept → record { model = m; changes = c.scenarios } ≡ p → s < length (problem p).scenarios → s < length kept
-in-kept m c kept p s k same lt =
-    let at : s < length (problem_of m c.scenarios).scenarios = subst (λ (q : Scenarios). s < length (problem q).scenarios) (sym same) lt in
-    let count : length (problem_of m c.scenarios).scenarios ≡ length (solved m c.scenarios) = length-map (solved m c.scenarios) (scenario_of m) in
-    let other : length kept ≡ length (solved m c.scenarios) = ap length k.numbers ∙ length-map (solved m c.scenarios) (numbers_of m) in
-    omega (arith, at, count, other)
-
 pub chosen : (m : IntegerModel) (c : ChangeSet) (kept : List Numbers) (p : Scenarios) (s : ℕ) (n : Numbers) → IsPosed m c kept → record { model = m; changes = c.scenarios } ≡ p → s < length (problem p).scenarios → n ≡ slice_index_or kept s n → IsChosen p s n
 chosen m c kept p s n k same lt read =
     let at : s < length (problem_of m c.scenarios).scenarios = subst (λ (q : Scenarios). s < length (problem q).scenarios) (sym same) lt in
@@ -261,5 +252,5 @@ pub made-feasible : (p : Scenarios) (s : ℕ) (lows highs x : List ℤ) (ends : 
 made-feasible p s lows highs x ends rows e r h m = record {
   within = subst (λ (box : Box). InBox box x) (bounds-read p s lows highs r.lows_are r.highs_are) h;
   rows = subst (λ (es : List Ends). MeetsRows (program_at (problem p) s).rows es x) r.ends_are
-    (subst (λ (ts : List Terms). MeetsRows ts ends x) (ap (λ (rs : List Row). map (λ (i : Row). i.terms) rs) e ∙ sym (rows-at p s r.scenario)) m);
+      (subst (λ (ts : List Terms). MeetsRows ts ends x) (ap (λ (rs : List Row). map (λ (i : Row). i.terms) rs) e ∙ sym (rows-at p s r.scenario)) m);
 }

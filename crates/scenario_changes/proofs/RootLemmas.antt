@@ -92,9 +92,9 @@ pub root-step : (ps : List Program) (d : Program) (s n : ℕ) (lows highs ls hs 
 root-step ps d s n lows highs ls hs new_lows new_highs lt a b at e f before =
     let rest : List Box = map (λ (p : Program). p.bounds) (drop (s + 1) ps) in
     let made : box_of new_lows new_highs ≡ hull (box_of lows highs) (slice_index_or ps s d).bounds =
-      ap (λ (xs : List ℤ). box_of xs new_highs) e ∙ ap (λ (xs : List ℤ). box_of (lesser lows ls) xs) f
-      ∙ sym (hull-sides lows highs ls hs (a.low_count ∙ sym a.high_count) (b.low_count ∙ sym b.high_count) (a.low_count ∙ sym b.low_count))
-      ∙ ap (λ (box : Box). hull (box_of lows highs) box) at in
+    ap (λ (xs : List ℤ). box_of xs new_highs) e ∙ ap (λ (xs : List ℤ). box_of (lesser lows ls) xs) f
+    ∙ sym (hull-sides lows highs ls hs (a.low_count ∙ sym a.high_count) (b.low_count ∙ sym b.high_count) (a.low_count ∙ sym b.low_count))
+    ∙ ap (λ (box : Box). hull (box_of lows highs) box) at in
     ap (λ (box : Box). hull_of box rest) made ∙ sym (hull_of-hull (box_of lows highs) (slice_index_or ps s d).bounds rest)
     ∙ sym (ap (λ (qs : List Program). hull_of (box_of lows highs) (map (λ (p : Program). p.bounds) qs)) (drop_more ps s d lt)) ∙ before
 

@@ -1,5 +1,5 @@
 -- Products within the limits, and one term more of a sum.
-use Rattle.std.proofs.Common.{◌≡◌, ◌∙◌, ap, sym, ℕ, ◌+◌, ◌^◌, ◌<◌, ◌≤◌, ℤ, pos, ◌+ℤ◌, ◌*ℤ◌, unsigned_abs, List, [], ◌∷◌, length, get_or, drop, refl, arith, zero, suc, FitsSigned, w64, to_z, of_z, ◌↔◌, subst, map, Some, slice_get, slice_index_or}
+use Rattle.std.proofs.Common.{◌≡◌, ◌∙◌, ap, sym, ℕ, ◌+◌, ◌^◌, ◌<◌, ◌≤◌, ℤ, ◌+ℤ◌, ◌*ℤ◌, unsigned_abs, List, [], ◌∷◌, length, get_or, drop, arith, zero, suc, FitsSigned, w64, to_z, of_z, ◌↔◌, subst, map, Some, slice_get, slice_index_or}
 use Rattle.std.proofs.Math.Nat.{mul-le-mul}
 use Rattle.std.proofs.lemmas.Int.{ints, unsigned_abs-mul, fits_signed_from_abs, to_z-of_z}
 use Rattle.std.proofs.lemmas.List.{drop_more}
@@ -75,6 +75,7 @@ meets-first rows ends x i row d z f e h =
     (subst (IsBetween (slice_index_or ends i d)) (sym e) both.0, both.1)
 
 pub meets-step : (P : Type 0) (rows : List Row) (ends : List Ends) (x : List ℤ) (i : ℕ) (row : Row) (d : Ends) (z : ℤ) → FirstRow rows ends i row → z ≡ row_sum row.terms x → IsBetween (slice_index_or ends i d) z → (P ↔ MeetsRows (terms_of (drop i rows)) (drop i ends) x) → (P ↔ MeetsRows (terms_of (drop (i + 1) rows)) (drop (i + 1) ends) x)
-meets-step P rows ends x i row d z f e between both =
-    (λ p. (meets-first rows ends x i row d z f e (both.0 p)).1,
-     λ q. both.1 (meets-both (row ∷ drop (i + 1) rows) (drop i rows) (slice_index_or ends i d ∷ drop (i + 1) ends) (drop i ends) x (sym (at-place rows i row f.in_rows f.read)) (sym (drop_more ends i d f.in_ends)) (subst (IsBetween (slice_index_or ends i d)) e between, q)))
+meets-step P rows ends x i row d z f e between both = (
+  λ p. (meets-first rows ends x i row d z f e (both.0 p)).1,
+  λ q. both.1 (meets-both (row ∷ drop (i + 1) rows) (drop i rows) (slice_index_or ends i d ∷ drop (i + 1) ends) (drop i ends) x (sym (at-place rows i row f.in_rows f.read)) (sym (drop_more ends i d f.in_ends)) (subst (IsBetween (slice_index_or ends i d)) e between, q)),
+)

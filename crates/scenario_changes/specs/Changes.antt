@@ -1,5 +1,5 @@
 -- What each scenario of a model changes.
-use Rattle.std.specs.Prelude.{◌≡◌, ℕ, ◌+◌, ◌-◌, ◌<◌, ◌≤◌, ◌^◌, ℤ, Bool, true, false, ◌&&◌, ◌||◌, not, nat_lt, nat_le, nat_eq, List, [], ◌∷◌, ◌++◌, length, map, take, replicate, slice_set, slice_index_or, All, Option, Some, None, is_some, unwrap_or, IfSome, max}
+use Rattle.std.specs.Prelude.{◌≡◌, ℕ, ◌-◌, ◌<◌, ◌≤◌, ◌^◌, ℤ, Bool, true, false, ◌&&◌, ◌||◌, not, nat_lt, nat_le, nat_eq, List, [], ◌∷◌, ◌++◌, length, map, take, replicate, slice_set, slice_index_or, All, Option, Some, None, is_some, unwrap_or, IfSome, max}
 use Rattle.std.specs.List.{list_any}
 use Rattle.int_model.specs.Limits.{IsBound, IsEntry}
 use Rattle.int_model.specs.Ends.{removes, is_value}
@@ -8,7 +8,6 @@ use Rattle.int_model.specs.Models.{IntegerModel}
 use Rattle.int_model.specs.declared.model.Row.{Row}
 use Rattle.int_model.specs.declared.model.Rhs.{Rhs}
 use Rattle.int_model.specs.declared.model.Rhs.TheVariants.{Value, Inf, MinusInf}
-use Rattle.int_model.specs.declared.model.RowSense.TheVariants.{E}
 use Rattle.scenario_changes.specs.declared.change.RowShape.{RowShape}
 
 -- what a scenario changes: a place for each column and each row, None where the base's value stays

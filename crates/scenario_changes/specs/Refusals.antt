@@ -1,5 +1,5 @@
 -- When a setting is refused.
-use Rattle.std.specs.Prelude.{ℕ, ◌^◌, ℤ, Bool, not, nat_le, nat_lt, nat_eq, List, length, slice_index_or, Option, Some, None, if◌then◌else◌, true}
+use Rattle.std.specs.Prelude.{ℕ, ℤ, Bool, not, nat_le, nat_lt, nat_eq, List, length, slice_index_or, Option, Some, None, if◌then◌else◌, true}
 use Rattle.int_model.specs.Build.{side_exceeds}
 use Rattle.int_model.specs.declared.model.Rhs.{Rhs}
 use Rattle.int_model.specs.declared.model.RowSense.TheVariants.{E}

@@ -10,7 +10,10 @@ pub enum Answer {
     /// No point is feasible.
     Infeasible,
     /// A feasible point, and its value; no feasible point has a smaller one.
-    Optimal { point: Point, value: i64 },
+    Optimal {
+        point: Point,
+        value: i64,
+    },
     /// The best point that was found, with its value, and a bound below it that no feasible point's value is below.
     Limit {
         best: Option<(Point, i64)>,

@@ -33,7 +33,11 @@ impl Model for ScenarioChange {
 
 impl ScenarioChange {
     /// A scenario without changes.
-    pub(crate) fn new(alloc: Global, columns: usize, rows: usize) -> Result<ScenarioChange, AllocError>
+    pub(crate) fn new(
+        alloc: Global,
+        columns: usize,
+        rows: usize,
+    ) -> Result<ScenarioChange, AllocError>
         ensures { IfOk result (λ c. c ≡ no_change columns rows) }
     {
         Ok(ScenarioChange {

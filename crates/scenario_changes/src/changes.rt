@@ -137,7 +137,12 @@ fn name_of(alloc: Global, bytes: Option<&[u8]>) -> Result<Option<Name>, AllocErr
 }
 
 // So many scenarios without changes.
-fn unchanged(alloc: Global, count: u32, columns: usize, rows: usize) -> Result<Vec<ScenarioChange>, AllocError>
+fn unchanged(
+    alloc: Global,
+    count: u32,
+    columns: usize,
+    rows: usize,
+) -> Result<Vec<ScenarioChange>, AllocError>
     ensures { IfOk result (λ scenarios. scenarios.items ≡ replicate count (no_change columns rows)) }
 {
     let mut scenarios = Vec::new(alloc);

@@ -10,7 +10,10 @@ mod numbers;
 mod problem;
 mod root;
 
-pub use changes::Changes;
 pub use answer::{Answer, Answers};
+pub use changes::Changes;
 pub use error::ChangeError;
 pub use problem::Problem;
+
+#[cfg(test)]
+mod tests;

@@ -32,7 +32,11 @@ impl marker::Model for ScenarioNumbers {
 
 impl ScenarioNumbers {
     /// The numbers of a scenario with these changes.
-    pub(crate) fn new(alloc: Global, model: &Model, change: &ScenarioChange) -> Result<ScenarioNumbers, AllocError>
+    pub(crate) fn new(
+        alloc: Global,
+        model: &Model,
+        change: &ScenarioChange,
+    ) -> Result<ScenarioNumbers, AllocError>
         requires { IsChange (length model.now.columns) (map shape_of model.now.rows) change.now }
         ensures { IfOk result (λ n. n ≡ numbers_of model.now change.now) }
     {
@@ -119,7 +123,11 @@ fn highs_of(alloc: Global, model: &Model, changes: &[Option<i32>]) -> Result<Vec
 }
 
 // The row ends of a scenario with these changes.
-fn row_ends_of(alloc: Global, model: &Model, changes: &[Option<Rhs>]) -> Result<Vec<Ends>, AllocError>
+fn row_ends_of(
+    alloc: Global,
+    model: &Model,
+    changes: &[Option<Rhs>],
+) -> Result<Vec<Ends>, AllocError>
     requires count { length changes.now ≡ length model.now.rows }
     requires sides { AreSides (map shape_of model.now.rows) changes.now }
     ensures { IfOk result (λ ends. ends.items ≡ ends_of_rows model.now.rows (changed (map (λ (i : Row). Value i.rhs) model.now.rows) changes.now)) }

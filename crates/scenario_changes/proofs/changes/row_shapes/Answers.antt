@@ -1,4 +1,4 @@
-use Rattle.std.proofs.Common.{arith, rules, ◌<◌, length}
+use Rattle.std.proofs.Common.{rules, ◌<◌, length}
 use Rattle.scenario_changes.proofs.ChangeLemmas.{shapes-more}
 use Rattle.scenario_changes.proofs.changes.row_shapes.Goals as goal
 

@@ -1,4 +1,4 @@
-use Rattle.std.proofs.Common.{rules, arith, pos, ℤ, ◌<◌, ◌≤◌, ◌^◌, length, get_or, unsigned_abs, FitsSigned, w64, w32}
+use Rattle.std.proofs.Common.{rules, arith, pos, ◌<◌, ◌≤◌, ◌^◌, length, get_or, unsigned_abs, FitsSigned, w64, w32}
 use Rattle.std.proofs.lemmas.Int.{ints, to_z-of_z}
 use Rattle.scenario_changes.proofs.SumLemmas.{cost_at, dot-more}
 use Rattle.scenario_changes.proofs.feasible.cost_sum.Goals as goal

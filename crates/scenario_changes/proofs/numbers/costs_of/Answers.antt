@@ -1,4 +1,4 @@
-use Rattle.std.proofs.Common.{rules, refl, ap, map, ◌<◌, ◌≡◌, ◌∙◌, length, None, unwrap_or, get_or, FitsSigned, w64}
+use Rattle.std.proofs.Common.{rules, ap, map, ◌<◌, ◌≡◌, ◌∙◌, length, None, unwrap_or, get_or, FitsSigned, w64}
 use Rattle.std.proofs.lemmas.Int.{to_z-of_z}
 use Rattle.int_model.specs.Models.{minimized}
 use Rattle.int_model.specs.declared.model.Column.{Column}

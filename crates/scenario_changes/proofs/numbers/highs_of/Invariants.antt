@@ -1,5 +1,4 @@
 use Rattle.std.proofs.Common.{◌≡◌, ◌++◌, map, drop}
-use Rattle.int_model.specs.Models.{minimized}
 use Rattle.int_model.specs.declared.model.Column.{Column}
 use Rattle.scenario_changes.specs.Changes.{changed}
 use Rattle.scenario_changes.proofs.numbers.highs_of.Given as goal

@@ -11,5 +11,5 @@ returns-clause-value c =
     let constant_fits : FitsSigned w64 c.constant.result = search rules in
     let value = simp to_z-of_z at c.minimized.ensures in
     let base : c.minimized.result ≡ minimized c.args.self.now.model.direction c.args.self.now.model.constant =
-      value ∙ ap (λ d. minimized d c.constant.result) c.direction.ensures ∙ ap (minimized c.self.inside.model.direction) c.constant.ensures.value ∙ ap (λ (p : Scenarios). minimized p.model.direction p.model.constant) c.self.view_is in
+    value ∙ ap (λ d. minimized d c.constant.result) c.direction.ensures ∙ ap (minimized c.self.inside.model.direction) c.constant.ensures.value ∙ ap (λ (p : Scenarios). minimized p.model.direction p.model.constant) c.self.view_is in
     λ s lt. constant-at c.args.self.now s lt ∙ sym (to_z-of_z w64 c.minimized.result fits ∙ base)

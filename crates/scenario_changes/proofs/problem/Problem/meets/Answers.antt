@@ -1,7 +1,6 @@
 use Rattle.std.proofs.Common.{refl, ◌≡◌, ◌∙◌, ap, sym, length}
 use Rattle.int_model.specs.Boxes.{InBox, box_of}
 use Rattle.int_model.specs.Models.{IntegerModel}
-use Rattle.int_model.specs.declared.model.Row.{Row}
 use Rattle.int_model.proofs.BoxLaws.{length-InBox, length-box_of}
 use Rattle.scenario_changes.proofs.ProblemLaws.{IsRead, point-small, feasible-within, feasible-rows, made-feasible}
 use Rattle.scenario_changes.proofs.problem.Problem.meets.Goals as goal
@@ -24,6 +23,7 @@ pub returns : goal.returns
 returns c =
     let rows : c.model.result.now.rows ≡ c.args.self.now.model.rows = ap (λ (m : IntegerModel). m.rows) c.model.ensures in
     let inside : InBox (box_of c.lows.result.now c.highs.result.now) c.args.x.now = c.if-not-lies_within.ensures.0 refl in
-    let read : IsRead c.args.self.now c.args.s c.lows.result.now c.highs.result.now c.ends.result.now = record { scenario = c.requires; lows_are = c.lows.ensures.value; highs_are = c.highs.ensures.value; ends_are = c.ends.ensures.value } in
-    (λ e. made-feasible c.args.self.now c.args.s _ _ c.args.x.now _ c.model.result.now.rows rows read inside (c.meets_rows.ensures.0 e),
-     λ f. c.meets_rows.ensures.1 (feasible-rows c.args.self.now c.args.s _ _ c.args.x.now _ c.model.result.now.rows rows read f))
+    let read : IsRead c.args.self.now c.args.s c.lows.result.now c.highs.result.now c.ends.result.now = record { scenario = c.requires; lows_are = c.lows.ensures.value; highs_are = c.highs.ensures.value; ends_are = c.ends.ensures.value } in (
+      λ e. made-feasible c.args.self.now c.args.s _ _ c.args.x.now _ c.model.result.now.rows rows read inside (c.meets_rows.ensures.0 e),
+      λ f. c.meets_rows.ensures.1 (feasible-rows c.args.self.now c.args.s _ _ c.args.x.now _ c.model.result.now.rows rows read f),
+    )

@@ -1,4 +1,4 @@
-use Rattle.std.proofs.Common.{rules, arith, ◌≡◌, ◌∙◌, ◌<◌, ◌≤◌, ap, sym, subst, [], length, pos, ℤ, List}
+use Rattle.std.proofs.Common.{rules, ◌≡◌, ◌∙◌, ◌<◌, ◌≤◌, ap, sym, subst, [], length, pos, ℤ, List}
 use Rattle.std.specs.List.{All}
 use Rattle.int_model.specs.Limits.{IsBound}
 use Rattle.int_model.specs.Boxes.{box_of}
