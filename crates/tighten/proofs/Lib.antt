@@ -3,3 +3,4 @@ pub mod OtherTerms
 pub mod NarrowLemmas
 pub mod StepLemmas
 pub mod Examples
+pub mod ListLemmas

@@ -62,13 +62,13 @@ whole-left i l h e k m n =
 pub upper-left : (terms : Terms) (j : ℕ) (box : Box) (l h own others end : ℤ) (r : Option (ℤ × ℤ)) → interval_at box j ≡ interval l h → own ≡ coefficient j terms → others ≡ least_sum (without j terms) box → IsLeft (narrowed own (end -ℤ others) (interval l h)) r → IsLeft (by_upper terms (Some end) j box) r
 upper-left terms j box l h own others end r at e f k =
     let same : narrowed own (end -ℤ others) (interval l h) ≡ by_upper terms (Some end) j box =
-      ap (λ (i : Interval). narrowed own (end -ℤ others) i) (sym at) ∙ ap (λ (a : ℤ). narrowed a (end -ℤ others) (interval_at box j)) e ∙ ap (λ (z : ℤ). narrowed (coefficient j terms) (end -ℤ z) (interval_at box j)) f in
+    ap (λ (i : Interval). narrowed own (end -ℤ others) i) (sym at) ∙ ap (λ (a : ℤ). narrowed a (end -ℤ others) (interval_at box j)) e ∙ ap (λ (z : ℤ). narrowed (coefficient j terms) (end -ℤ z) (interval_at box j)) f in
     subst (λ (i : Interval). IsLeft i r) same k
 
 pub lower-left : (terms : Terms) (j : ℕ) (box : Box) (l h a own others end : ℤ) (r : Option (ℤ × ℤ)) → interval_at box j ≡ interval l h → a ≡ neg_ℤ own → own ≡ coefficient j terms → others ≡ greatest_sum (without j terms) box → IsLeft (narrowed a (others -ℤ end) (interval l h)) r → IsLeft (by_lower terms (Some end) j box) r
 lower-left terms j box l h a own others end r at turned e f k =
     let same : narrowed a (others -ℤ end) (interval l h) ≡ by_lower terms (Some end) j box =
-      ap (λ (i : Interval). narrowed a (others -ℤ end) i) (sym at) ∙ ap (λ (z : ℤ). narrowed z (others -ℤ end) (interval_at box j)) (turned ∙ ap neg_ℤ e) ∙ ap (λ (z : ℤ). narrowed (neg_ℤ (coefficient j terms)) (z -ℤ end) (interval_at box j)) f in
+    ap (λ (i : Interval). narrowed a (others -ℤ end) i) (sym at) ∙ ap (λ (z : ℤ). narrowed z (others -ℤ end) (interval_at box j)) (turned ∙ ap neg_ℤ e) ∙ ap (λ (z : ℤ). narrowed (neg_ℤ (coefficient j terms)) (z -ℤ end) (interval_at box j)) f in
     subst (λ (i : Interval). IsLeft i r) same k
 
 -- the interval cut above at a number of it

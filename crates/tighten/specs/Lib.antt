@@ -1,3 +1,4 @@
 pub mod Replay
 pub mod Steps
+pub mod Engines
 pub mod Laws

@@ -28,7 +28,13 @@ fn coefficient(terms: &[(u32, i64)], column: u32) -> i64
 }
 
 // The least sum of the other terms, where the column has this coefficient.
-fn least_others(terms: &[(u32, i64)], low: &[i32], high: &[i32], column: u32, coefficient: i64) -> i64
+fn least_others(
+    terms: &[(u32, i64)],
+    low: &[i32],
+    high: &[i32],
+    column: u32,
+    coefficient: i64,
+) -> i64
     requires summed { AreSummed terms.now low.now high.now }
     requires column { column < length low.now }
     requires coefficient { coefficient ≡ sums.coefficient column terms.now }
@@ -41,7 +47,13 @@ fn least_others(terms: &[(u32, i64)], low: &[i32], high: &[i32], column: u32, co
 }
 
 // The greatest sum of the other terms, where the column has this coefficient.
-fn most_others(terms: &[(u32, i64)], low: &[i32], high: &[i32], column: u32, coefficient: i64) -> i64
+fn most_others(
+    terms: &[(u32, i64)],
+    low: &[i32],
+    high: &[i32],
+    column: u32,
+    coefficient: i64,
+) -> i64
     requires summed { AreSummed terms.now low.now high.now }
     requires column { column < length low.now }
     requires coefficient { coefficient ≡ sums.coefficient column terms.now }
@@ -104,7 +116,13 @@ fn cut_below(least: i64, low: i32, high: i32) -> Option<(i32, i32)>
 }
 
 // What an upper end of a row leaves of the interval of a column.
-fn by_upper(terms: &[(u32, i64)], end: Option<i64>, column: u32, low: &[i32], high: &[i32]) -> Option<(i32, i32)>
+fn by_upper(
+    terms: &[(u32, i64)],
+    end: Option<i64>,
+    column: u32,
+    low: &[i32],
+    high: &[i32],
+) -> Option<(i32, i32)>
     requires summed { AreSummed terms.now low.now high.now }
     requires end { IfSome end (λ u. unsigned_abs u ≤ 2 * 10 ^ 18) }
     requires column { column < length low.now }
@@ -124,7 +142,13 @@ fn by_upper(terms: &[(u32, i64)], end: Option<i64>, column: u32, low: &[i32], hi
 }
 
 // What a lower end of a row leaves of the interval of a column.
-fn by_lower(terms: &[(u32, i64)], end: Option<i64>, column: u32, low: &[i32], high: &[i32]) -> Option<(i32, i32)>
+fn by_lower(
+    terms: &[(u32, i64)],
+    end: Option<i64>,
+    column: u32,
+    low: &[i32],
+    high: &[i32],
+) -> Option<(i32, i32)>
     requires summed { AreSummed terms.now low.now high.now }
     requires end { IfSome end (λ w. unsigned_abs w ≤ 2 * 10 ^ 18) }
     requires column { column < length low.now }

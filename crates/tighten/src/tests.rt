@@ -1,3 +1,6 @@
+ghost use Rattle.std.specs.Prelude.{◌≡◌};
+ghost use Rattle.tighten.specs.declared.step.RowEnd.TheVariants.{Upper};
+
 use super::*;
 use int_model::{ColumnPart, Direction, Ends, Model, Name, Parts, PointBox, Row, RowSense, Terms};
 use std::alloc::{AllocError, Global};
@@ -41,12 +44,86 @@ const AT_MOST_FOUR: Ends = Ends {
     upper: Some(4),
 };
 
-fn upper(column: u32) -> Step {
+const BELOW: Ends = Ends {
+    lower: None,
+    upper: Some(-1),
+};
+
+fn upper(row: u32, column: u32) -> Step
+    ensures { result ≡ record { row = row; column = column; side = Upper } }
+{
     Step {
-        row: 0,
+        row,
         column,
         side: RowEnd::Upper,
     }
+}
+
+// x_(j+1) <= x_j - 1 for each two neighbours of so many columns in 0..9.
+fn chain(alloc: Global, columns: u32) -> Result<Parts, AllocError> {
+    let mut parts = Parts {
+        columns: Vec::new(alloc),
+        rows: Vec::new(alloc),
+        constant: 0,
+        direction: Direction::Min,
+    };
+    for j in 0..columns {
+        let letter = (j % 100) as u8;
+        parts.columns.push(ColumnPart {
+            high: Some(9),
+            ..column(alloc, letter)?
+        })?;
+        if j > 0 {
+            parts.rows.push(Row {
+                name: name(alloc, letter)?,
+                sense: RowSense::L,
+                rhs: -1,
+                range: None,
+                terms: Terms::from_vec(vec![in alloc; (j - 1, -1), (j, 1)]?),
+            })?;
+        }
+    }
+    Ok(parts)
+}
+
+#[test]
+fn proposes_along_a_chain(rt: HostRuntime) -> Result<(), Fail> {
+    let model = Model::build(rt.alloc(), chain(rt.alloc(), 4)?)?;
+    let bounds = PointBox::from_ends(rt.alloc(), &[0, 0, 0, 0], &[9, 9, 9, 9])?;
+    assert_eq!(rt; model.rows(), 3);
+    assert_eq!(rt; model.columns(), 4);
+    let mut steps = Vec::new(rt.alloc());
+    propose(
+        rt.alloc(),
+        &model,
+        &[BELOW, BELOW, BELOW],
+        &bounds,
+        &mut steps,
+    )?;
+    let mut narrow = bounds.copy(rt.alloc())?;
+    assert!(rt;
+        replay(
+            &model,
+            &[BELOW, BELOW, BELOW],
+            steps.as_slice(),
+            &mut narrow
+        )
+    );
+    assert_eq!(rt; narrow.lows(), [3, 2, 1, 0].as_slice());
+    assert_eq!(rt; narrow.highs(), [9, 8, 7, 6].as_slice());
+    Ok(())
+}
+
+#[test]
+fn proposes_at_a_root_box(rt: HostRuntime) -> Result<(), Fail> {
+    let model = Model::build(rt.alloc(), cap(rt.alloc())?)?;
+    let bounds = PointBox::from_ends(rt.alloc(), &[0, 0], &[3, 3])?;
+    assert_eq!(rt; model.rows(), 1);
+    assert_eq!(rt; model.columns(), 2);
+    let mut steps = Vec::new(rt.alloc());
+    propose(rt.alloc(), &model, &[AT_MOST_FOUR], &bounds, &mut steps)?;
+    assert_eq!(rt; steps.as_slice(), [upper(0, 0)].as_slice());
+    Ok(())
 }
 
 #[test]
@@ -55,12 +132,7 @@ fn applies_a_step(rt: HostRuntime) -> Result<(), Fail> {
     let mut bounds = PointBox::from_ends(rt.alloc(), &[0, 0], &[3, 3])?;
     assert_eq!(rt; model.rows(), 1);
     assert_eq!(rt; model.columns(), 2);
-    let step = Step {
-        row: 0,
-        column: 0,
-        side: RowEnd::Upper,
-    };
-    assert!(rt; apply(&model, &[AT_MOST_FOUR], &step, &mut bounds));
+    assert!(rt; apply(&model, &[AT_MOST_FOUR], &upper(0, 0), &mut bounds));
     assert_eq!(rt; bounds.highs(), [2, 3].as_slice());
     Ok(())
 }

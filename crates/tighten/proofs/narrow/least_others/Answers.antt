@@ -18,5 +18,5 @@ returns-clause-value c =
     let own = simp to_z-of_z at c.least_of.ensures.value in
     let at = interval-at c.args.low.now c.args.high.now c.args.column c.requires.summed.sides in
     let same : least_product (coefficient j c.args.terms.now) (interval_at (box_of c.args.low.now c.args.high.now) j) ≡ least_product c.args.coefficient (record { low = get_or c.args.low.now j (pos 0); high = get_or c.args.high.now j (pos 0) }) =
-      ap (least_product (coefficient j c.args.terms.now)) at ∙ ap (λ (a : ℤ). least_product a (record { low = get_or c.args.low.now j (pos 0); high = get_or c.args.high.now j (pos 0) })) (sym c.requires.coefficient) in
+    ap (least_product (coefficient j c.args.terms.now)) at ∙ ap (λ (a : ℤ). least_product a (record { low = get_or c.args.low.now j (pos 0); high = get_or c.args.high.now j (pos 0) })) (sym c.requires.coefficient) in
     simp to_z-of_z (omega (arith, ints, own, same, c.least.ensures.value, least_sum-split _ j c.args.terms.now (box_of c.args.low.now c.args.high.now) c.requires.summed.row))

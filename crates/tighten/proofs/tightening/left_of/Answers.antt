@@ -18,5 +18,5 @@ returns c =
     let terms : slice_index_or (rows_of c.args.model.now) step.row [] ≡ c.as_slice.result.now = terms-at c.args.model.now.rows step.row c.row-row.result.now c.row-row.ensures.value ∙ sym c.as_slice.ensures in
     let box : box_of c.lows.result.now c.highs.result.now ≡ c.args.bounds.now = rw (c.lows.ensures.value, c.highs.ensures.value) (sides-of c.args.bounds.now) in
     let same : spec.left_by c.as_slice.result.now ends step.side step.column (box_of c.lows.result.now c.highs.result.now) ≡ spec.left_of (rows_of c.args.model.now) c.args.ends.now step c.args.bounds.now =
-      ap (λ (ts : Terms). spec.left_by ts ends step.side step.column (box_of c.lows.result.now c.highs.result.now)) (sym terms) ∙ ap (spec.left_by (slice_index_or (rows_of c.args.model.now) step.row []) ends step.side step.column) box in
+    ap (λ (ts : Terms). spec.left_by ts ends step.side step.column (box_of c.lows.result.now c.highs.result.now)) (sym terms) ∙ ap (spec.left_by (slice_index_or (rows_of c.args.model.now) step.row []) ends step.side step.column) box in
     subst (λ (i : Interval). IsLeft i c.left_by.result) same c.left_by.ensures
