@@ -1,5 +1,5 @@
 -- When a setting is refused.
-use Rattle.std.specs.Prelude.{ℕ, ℤ, Bool, not, nat_le, nat_lt, nat_eq, List, length, slice_index_or, Option, Some, None, if◌then◌else◌, true}
+use Rattle.std.specs.Prelude.{ℕ, ℤ, Bool, not, nat_le, nat_lt, nat_eq, List, length, slice_index_or, Option, Some, None, if◌then◌else◌, true, false}
 use Rattle.int_model.specs.Build.{side_exceeds}
 use Rattle.int_model.specs.declared.model.Rhs.{Rhs}
 use Rattle.int_model.specs.declared.model.RowSense.TheVariants.{E}
@@ -47,7 +47,7 @@ rhs_refusal c i v =
     (refuse_if (not (may_have (shape_at c i) v)) BadRemoval)))
 
 abbrev pub is_bad_name : Option (List ℕ) → Bool
-is_bad_name None = not true
+is_bad_name None = false
 is_bad_name (Some name) = not (is_name name)
 
 abbrev pub name_refusal : ChangeSet → Option (List ℕ) → Option ChangeError
