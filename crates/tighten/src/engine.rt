@@ -244,7 +244,11 @@ impl Engine {
     {
         let _rows = model.rows();
         let ends = ends[row as usize];
-        self.queued[row as usize] = false;
+        let place = row as usize;
+        self.queued[place] = false;
+        if is_redundant(self.least[place], self.most[place], ends) {
+            return Ok(true);
+        }
         let line = model.row(row);
         let terms = line.terms.as_slice();
         for &(column, coefficient) in terms {
@@ -332,4 +336,17 @@ impl Engine {
         }
         Ok(())
     }
+}
+
+// Whether a row's ends allow every sum from its least to its greatest.
+fn is_redundant(least: i64, most: i64, ends: Ends) -> bool {
+    let below = match ends.upper {
+        Some(end) => most <= end,
+        None => true,
+    };
+    let above = match ends.lower {
+        Some(end) => end <= least,
+        None => true,
+    };
+    below && above
 }

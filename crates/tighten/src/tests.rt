@@ -87,30 +87,23 @@ fn chain(alloc: Global, columns: u32) -> Result<Parts, AllocError> {
 }
 
 #[test]
-fn proposes_along_a_chain(rt: HostRuntime) -> Result<(), Fail> {
+fn narrows_along_a_chain(rt: HostRuntime) -> Result<(), Fail> {
     let model = Model::build(rt.alloc(), chain(rt.alloc(), 4)?)?;
     let bounds = PointBox::from_ends(rt.alloc(), &[0, 0, 0, 0], &[9, 9, 9, 9])?;
     assert_eq!(rt; model.rows(), 3);
     assert_eq!(rt; model.columns(), 4);
-    let mut steps = Vec::new(rt.alloc());
-    propose(
-        rt.alloc(),
-        &model,
-        &[BELOW, BELOW, BELOW],
-        &bounds,
-        &mut steps,
-    )?;
-    let mut narrow = bounds.copy(rt.alloc())?;
-    assert!(rt;
-        replay(
-            &model,
-            &[BELOW, BELOW, BELOW],
-            steps.as_slice(),
-            &mut narrow
-        )
-    );
-    assert_eq!(rt; narrow.lows(), [3, 2, 1, 0].as_slice());
-    assert_eq!(rt; narrow.highs(), [9, 8, 7, 6].as_slice());
+    let ends = [BELOW, BELOW, BELOW];
+    let mut engine = Engine::new(rt.alloc(), &model)?;
+    engine.load(&model, &bounds)?;
+    assert!(rt; engine.propagate(&model, &ends, 100)?);
+    assert_eq!(rt; engine.lows(), [3, 2, 1, 0].as_slice());
+    assert_eq!(rt; engine.highs(), [9, 8, 7, 6].as_slice());
+    let mark = engine.mark();
+    engine.set(&model, 0, 3, 3)?;
+    assert!(rt; engine.propagate(&model, &ends, 100)?);
+    assert_eq!(rt; engine.highs(), [3, 2, 1, 0].as_slice());
+    engine.undo(&model, mark)?;
+    assert_eq!(rt; engine.highs(), [9, 8, 7, 6].as_slice());
     Ok(())
 }
 
