@@ -1,0 +1,3 @@
+pub mod MpsLines
+pub mod MpsRules
+pub mod MpsModels
