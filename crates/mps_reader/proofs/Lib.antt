@@ -1,1 +1,4 @@
 mod MpsExamples
+pub mod HeaderLemmas
+pub mod OpeningLemmas
+pub mod FaultLemmas

@@ -1,5 +1,5 @@
 // The section COLUMNS: markers of integer parts, and each column's numbers for its rows.
-ghost use Rattle.std.specs.Prelude.{◌≡◌, ◌≤◌, ◌<◌, IfOk, vec_len};
+ghost use Rattle.std.specs.Prelude.{◌≡◌, ◌≤◌, ◌<◌, IfOk, All, length, vec_len};
 
 use crate::MpsKind;
 use crate::bounds::Bounds;
@@ -61,7 +61,9 @@ impl<'a> Columns<'a> {
         alloc: Global,
         rows: &mut Rows<'a>,
         fields: &[&'a [u8]],
-    ) -> Result<(), Fault> {
+    ) -> Result<(), Fault>
+        requires { All (λ f. 0 < length f.now) fields.now }
+    {
         match fields {
             [_, b"'MARKER'", ..] => Ok(self.take_marker(fields)?),
             [column, row, number] => {
@@ -90,6 +92,7 @@ impl<'a> Columns<'a> {
 
     // The number of the column that a line names: the current one, or a new one.
     fn column_named(&mut self, alloc: Global, field: &'a [u8]) -> Result<u32, Fault>
+        requires { 0 < length field.now }
         ensures { IfOk result (λ k. k < vec_len self.new.table.items) }
     {
         let count = self.table.items.len();

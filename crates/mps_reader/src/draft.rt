@@ -1,4 +1,6 @@
 // The model of a text, as far as its lines have been read.
+ghost use Rattle.std.specs.Prelude.{◌<◌, All, length};
+
 use crate::MpsKind;
 use crate::bounds::take_bound;
 use crate::columns::{ColumnDraft, Columns};
@@ -6,7 +8,7 @@ use crate::fault::{Fault, SetName};
 use crate::header::{Headers, Section};
 use crate::rows::Rows;
 use crate::sides::Side;
-use int_model::{ColumnPart, Direction, Model, ModelError, Parts};
+use int_model::{ColumnPart, Model, ModelError, Parts};
 use std::alloc::Global;
 
 /// Whether a line was the end of the text.
@@ -19,7 +21,6 @@ pub(crate) enum Progress {
 #[derive(Drop)]
 pub(crate) struct Draft<'a> {
     headers: Headers,
-    direction: Option<Direction>,
     rows: Rows<'a>,
     columns: Columns<'a>,
     rhs_set: SetName<'a>,
@@ -27,19 +28,10 @@ pub(crate) struct Draft<'a> {
     bound_set: SetName<'a>,
 }
 
-fn direction_named(word: &[u8]) -> Result<Direction, MpsKind> {
-    match word {
-        b"MAX" | b"MAXIMIZE" => Ok(Direction::Max),
-        b"MIN" | b"MINIMIZE" => Ok(Direction::Min),
-        _ => Err(MpsKind::Fields),
-    }
-}
-
 impl<'a> Draft<'a> {
     pub(crate) fn new(alloc: Global) -> Self {
         Draft {
-            headers: Headers::new(),
-            direction: None,
+            headers: Headers::new(alloc),
             rows: Rows::new(alloc),
             columns: Columns::new(alloc),
             rhs_set: SetName::new(),
@@ -54,38 +46,34 @@ impl<'a> Draft<'a> {
         alloc: Global,
         is_header: bool,
         fields: &[&'a [u8]],
-    ) -> Result<Progress, Fault> {
+    ) -> Result<Progress, Fault>
+        requires { All (λ f. 0 < length f.now) fields.now }
+    {
         if fields.is_empty() {
             return Ok(Progress::More);
         }
         if is_header {
-            return Ok(self.take_header(fields)?);
+            return self.take_header(fields);
         }
         self.take_data(alloc, fields)?;
         Ok(Progress::More)
     }
 
-    fn take_header(&mut self, fields: &[&'a [u8]]) -> Result<Progress, MpsKind> {
-        let [word, rest @ ..] = fields else {
-            return Ok(Progress::More);
-        };
-        // OBJSENSE has to give its value before the next header.
-        if self.headers.last == Some(Section::ObjSense) && self.direction.is_none() {
-            return Err(MpsKind::Section);
-        }
-        match (self.headers.enter(*word)?, rest) {
-            (Section::ObjSense, [value, ..]) => {
-                self.direction = Some(direction_named(*value)?);
-                Ok(Progress::More)
-            }
-            (Section::EndData, _) => Ok(Progress::Ended),
+    fn take_header(&mut self, fields: &[&'a [u8]]) -> Result<Progress, Fault>
+        requires { 0 < length fields.now }
+    {
+        match self.headers.enter(fields)? {
+            Section::EndData => Ok(Progress::Ended),
             _ => Ok(Progress::More),
         }
     }
 
-    fn take_data(&mut self, alloc: Global, fields: &[&'a [u8]]) -> Result<(), Fault> {
-        match self.headers.last {
-            Some(Section::ObjSense) => Ok(self.take_direction(fields)?),
+    fn take_data(&mut self, alloc: Global, fields: &[&'a [u8]]) -> Result<(), Fault>
+        requires some { 0 < length fields.now }
+        requires nonempty { All (λ f. 0 < length f.now) fields.now }
+    {
+        match self.headers.last() {
+            Some(Section::ObjSense) => Ok(self.headers.take_direction(fields)?),
             Some(Section::Rows) => self.rows.take_line(alloc, fields),
             Some(Section::Columns) => self.columns.take_line(alloc, &mut self.rows, fields),
             Some(Section::Rhs) => {
@@ -103,21 +91,10 @@ impl<'a> Draft<'a> {
         }
     }
 
-    fn take_direction(&mut self, fields: &[&'a [u8]]) -> Result<(), MpsKind> {
-        match (self.direction, fields) {
-            (None, [value, ..]) => {
-                self.direction = Some(direction_named(*value)?);
-                Ok(())
-            }
-            _ => Err(MpsKind::Section),
-        }
-    }
-
     /// The model, once the text has ended.
     pub(crate) fn into_model(self, alloc: Global) -> Result<Model, Fault> {
         let Draft {
-            headers: _,
-            direction,
+            headers,
             rows,
             columns,
             rhs_set: _,
@@ -130,7 +107,7 @@ impl<'a> Draft<'a> {
             columns,
             rows,
             constant,
-            direction: direction.unwrap_or(Direction::Min),
+            direction: headers.direction(),
         };
         Model::build(alloc, parts).map_err(fault_of)
     }

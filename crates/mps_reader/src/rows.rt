@@ -1,5 +1,5 @@
 // The section ROWS: the objective, and the rows with a sense.
-ghost use Rattle.std.specs.Prelude.{◌≡◌, ◌≤◌, unsigned_abs};
+ghost use Rattle.std.specs.Prelude.{◌≡◌, ◌<◌, ◌≤◌, All, length, unsigned_abs};
 ghost use Rattle.std.specs.Option.{ForSome};
 
 use crate::MpsKind;
@@ -74,7 +74,9 @@ impl<'a> Rows<'a> {
         &mut self,
         alloc: Global,
         fields: &[&'a [u8]],
-    ) -> Result<(), Fault> {
+    ) -> Result<(), Fault>
+        requires { All (λ f. 0 < length f.now) fields.now }
+    {
         let [word, field] = fields else {
             return Err(Fault::Refused(MpsKind::Fields));
         };
