@@ -2,3 +2,4 @@ mod MpsExamples
 pub mod HeaderLemmas
 pub mod OpeningLemmas
 pub mod FaultLemmas
+pub mod FieldLemmas
