@@ -6,3 +6,4 @@ pub mod Sets
 pub mod Sections
 pub mod Openings
 pub mod TakenLines
+pub mod ColumnBounds

@@ -1,5 +1,6 @@
 -- The model that a text has.
-use Rattle.std.specs.Prelude.{ℕ, zero, suc, ◌+◌, ℤ, pos, neg_ℤ, negsuc, int_lt, Bool, true, false, ◌&&◌, ◌||◌, not, nat_eq, if◌then◌else◌, List, [], ◌∷◌, ◌++◌, length, filter, filter_map, find, count_by, codes, Option, Some, None, option_map, option_and_then, unwrap_or, Ok, Err, Result, map, bytes_eq}
+use Rattle.std.specs.Prelude.{ℕ, zero, suc, ◌+◌, ℤ, pos, neg_ℤ, negsuc, int_lt, Bool, true, false, ◌&&◌, ◌||◌, not, nat_eq, if◌then◌else◌, List, [], ◌∷◌, ◌++◌, length, filter, filter_map, find, count_by, codes, Option, Some, None, option_map, option_and_then, is_some, is_none, unwrap_or, Ok, Err, Result, map, bytes_eq}
+use Rattle.std.specs.Option.{option_map_or}
 use Rattle.std.specs.List.{list_any, enumerate_from}
 use Rattle.num_text.specs.Lines.{lines_of}
 use Rattle.num_text.specs.NumberText.{number_of}
@@ -64,19 +65,22 @@ high_of ls column = unwrap_or (last_of (filter_map high_set (bound_lines ls colu
 
 -- ---- a column at the end of the text
 
+abbrev pub sets_integer : Line → Bool
+sets_integer l = is_one_of (codes "BV" ∷ codes "LI" ∷ codes "UI" ∷ []) (field 0 l)
+
 abbrev pub is_integer : List Line → List ℕ → Bool
-is_integer ls column = is_one_of (integer_names ls) column || list_any (λ l. is_one_of (codes "BV" ∷ codes "LI" ∷ codes "UI" ∷ []) (field 0 l)) (bound_lines ls column)
+is_integer ls column = is_one_of (integer_names ls) column || list_any sets_integer (bound_lines ls column)
 
+abbrev pub sets_high : Line → Bool
+sets_high l = is_some (high_set l)
+
+-- the line sets an upper bound below 0
+abbrev pub is_negative_upper : Line → Bool
+is_negative_upper l = is_one_of (codes "UP" ∷ codes "UI" ∷ []) (field 0 l) && int_lt (number_or_zero (bound_text l)) (pos 0)
+
+-- no line sets the low side, and the last that sets the high side sets an upper bound below 0
 abbrev pub has_negative_upper : List Line → List ℕ → Bool
-has_negative_upper ls column = nat_eq (length (filter_map low_set (bound_lines ls column))) 0 && is_below_zero (last_of (filter (λ l. sets_high (high_set l)) (bound_lines ls column)))
-  where
-    sets_high : Option Side → Bool
-    sets_high None = false
-    sets_high (Some side) = true
-
-    is_below_zero : Option Line → Bool
-    is_below_zero None = false
-    is_below_zero (Some l) = is_one_of (codes "UP" ∷ codes "UI" ∷ []) (field 0 l) && int_lt (number_or_zero (bound_text l)) (pos 0)
+has_negative_upper ls column = is_none (last_of (filter_map low_set (bound_lines ls column))) && option_map_or is_negative_upper (last_of (filter sets_high (bound_lines ls column))) false
 
 abbrev pub is_infinite : Side → Bool
 is_infinite None = true

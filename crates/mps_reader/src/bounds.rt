@@ -1,5 +1,8 @@
 // The section BOUNDS: the sides of each column, which later lines set anew.
-ghost use Rattle.std.specs.Prelude.{◌<◌, IfOk, vec_len};
+ghost use Rattle.std.specs.Prelude.{◌≡◌, ◌<◌, ◌∷◌, [], ℕ, List, IfOk, IfErr, IfSome, IfNone, ◌&&◌, not, true, false, vec_len};
+ghost use Rattle.mps_reader.specs.MpsLines.{Line, field, bound_text, is_one_of, integer_names, takes_value, takes_none};
+ghost use Rattle.mps_reader.specs.MpsModels.{number_or_zero, bound_lines, column_end_kind, low_of, high_of};
+ghost use Rattle.mps_reader.specs.ColumnBounds.{value_word, plain_word, with_line, BoundsAgree};
 
 use crate::MpsKind;
 use crate::columns::Columns;
@@ -17,8 +20,8 @@ pub(crate) struct Bounds {
     is_integer: bool,
     low: Option<Limit>,
     high: Option<Limit>,
-    /// Whether a line of type UP or UI set the high side last.
-    high_is_upper: bool,
+    /// Whether a line of type UP or UI set the high side last, to a number below 0.
+    has_negative_upper: bool,
 }
 
 // The types of bounds that take a value.
@@ -40,7 +43,10 @@ enum PlainBound {
     Binary,
 }
 
-fn value_bound_named(word: &[u8]) -> Option<ValueBound> {
+fn value_bound_named(word: &[u8]) -> Option<ValueBound>
+    ensures some { IfSome result (λ bound. word.now ≡ value_word bound) }
+    ensures none { IfNone result (takes_value word.now ≡ false) }
+{
     match word {
         b"LO" => Some(ValueBound::Lower),
         b"UP" => Some(ValueBound::Upper),
@@ -51,7 +57,10 @@ fn value_bound_named(word: &[u8]) -> Option<ValueBound> {
     }
 }
 
-fn plain_bound_named(word: &[u8]) -> Option<PlainBound> {
+fn plain_bound_named(word: &[u8]) -> Option<PlainBound>
+    ensures some { IfSome result (λ bound. word.now ≡ plain_word bound) }
+    ensures none { IfNone result (takes_none word.now ≡ false) }
+{
     match word {
         b"FR" => Some(PlainBound::Free),
         b"MI" => Some(PlainBound::MinusInfinity),
@@ -62,31 +71,39 @@ fn plain_bound_named(word: &[u8]) -> Option<PlainBound> {
 }
 
 impl Bounds {
-    pub(crate) fn new() -> Self {
+    pub(crate) fn new() -> Self
+        ensures { BoundsAgree result [] }
+    {
         Bounds {
             is_named: false,
             is_integer: false,
             low: None,
             high: None,
-            high_is_upper: false,
+            has_negative_upper: false,
         }
     }
 
-    fn set_low(&mut self, limit: Limit) {
+    fn set_low(&mut self, limit: Limit)
+        ensures { self.new ≡ record self.old { is_named = true; low = Some limit } }
+    {
         self.is_named = true;
         self.low = Some(limit);
     }
 
-    fn set_high(&mut self, limit: Limit, is_upper: bool) {
+    fn set_high(&mut self, limit: Limit, is_negative_upper: bool)
+        ensures { self.new ≡ record self.old { is_named = true; high = Some limit; has_negative_upper = is_negative_upper } }
+    {
         self.is_named = true;
         self.high = Some(limit);
-        self.high_is_upper = is_upper;
+        self.has_negative_upper = is_negative_upper;
     }
 
-    fn set_value(&mut self, bound: ValueBound, value: i64) {
+    fn set_value(&mut self, bound: ValueBound, value: i64)
+        ensures { (l : Line) → field 0 l ≡ value_word bound → number_or_zero (bound_text l) ≡ value → self.new ≡ with_line self.old l }
+    {
         match bound {
             ValueBound::Lower => self.set_low(Some(value)),
-            ValueBound::Upper => self.set_high(Some(value), true),
+            ValueBound::Upper => self.set_high(Some(value), value < 0),
             ValueBound::Fixed => {
                 self.set_low(Some(value));
                 self.set_high(Some(value), false);
@@ -97,12 +114,14 @@ impl Bounds {
             }
             ValueBound::IntegerUpper => {
                 self.is_integer = true;
-                self.set_high(Some(value), true);
+                self.set_high(Some(value), value < 0);
             }
         }
     }
 
-    fn set_plain(&mut self, bound: PlainBound) {
+    fn set_plain(&mut self, bound: PlainBound)
+        ensures { (l : Line) → field 0 l ≡ plain_word bound → self.new ≡ with_line self.old l }
+    {
         match bound {
             PlainBound::Free => {
                 self.set_low(None);
@@ -118,17 +137,16 @@ impl Bounds {
         }
     }
 
-    fn has_negative_upper(&self) -> bool {
-        self.high_is_upper && matches!(self.high, Some(Some(value)) if value < 0)
-    }
-
     /// The two sides of a column at the end of the text, where its bounds are good. `is_marked` tells whether it
     /// began in an integer part.
-    pub(crate) fn sides(&self, is_marked: bool) -> Result<(Limit, Limit), MpsKind> {
+    pub(crate) fn sides(&self, is_marked: bool) -> Result<(Limit, Limit), MpsKind>
+        ensures ok { IfOk result (λ sides. (ls : List Line) (column : List ℕ) → BoundsAgree self.now (bound_lines ls column) → is_marked ≡ is_one_of (integer_names ls) column → (column_end_kind ls column ≡ None) × (sides.0 ≡ low_of ls column) × (sides.1 ≡ high_of ls column)) }
+        ensures err { IfErr result (λ kind. (ls : List Line) (column : List ℕ) → BoundsAgree self.now (bound_lines ls column) → is_marked ≡ is_one_of (integer_names ls) column → column_end_kind ls column ≡ Some kind) }
+    {
         if !is_marked && !self.is_integer {
             return Err(MpsKind::Continuous);
         }
-        if self.low.is_none() && self.has_negative_upper() {
+        if self.low.is_none() && self.has_negative_upper {
             return Err(MpsKind::NegativeUpper);
         }
         let low = self.low.unwrap_or(Some(0));
@@ -140,7 +158,9 @@ impl Bounds {
     }
 
     /// Whether no line names the column, which began in an integer part: its bounds are then 0 and 1.
-    pub(crate) fn is_implied(&self, is_marked: bool) -> bool {
+    pub(crate) fn is_implied(&self, is_marked: bool) -> bool
+        ensures { result ≡ (is_marked && not self.now.is_named) }
+    {
         is_marked && !self.is_named
     }
 }
