@@ -3,3 +3,5 @@ pub mod HeaderLemmas
 pub mod OpeningLemmas
 pub mod FaultLemmas
 pub mod FieldLemmas
+pub mod NamedLemmas
+pub mod BoundLemmas

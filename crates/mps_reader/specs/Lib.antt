@@ -7,3 +7,4 @@ pub mod Sections
 pub mod Openings
 pub mod TakenLines
 pub mod ColumnBounds
+pub mod BoundLines

@@ -148,17 +148,20 @@ range_kind earlier l = set_kind (codes "RANGES") (is_one_of (free_rows earlier))
 
 -- ---- bounds
 
+-- a type of bound with as many fields as it takes
+abbrev pub bound_fits : Line → Bool
+bound_fits l =
+    (takes_value (field 0 l) && (nat_eq (length l.fields) 3 || nat_eq (length l.fields) 4))
+    || (takes_none (field 0 l) && (nat_eq (length l.fields) 2 || nat_eq (length l.fields) 3 || nat_eq (length l.fields) 4))
+
 abbrev pub bound_kind : List Line → Line → Option MpsKind
 bound_kind earlier l =
     or_else (first_kind (
-    (not (fits (length l.fields)), Fields)
+    (not (bound_fits l), Fields)
     ∷ (bound_has_set l && is_second (sets_of (codes "BOUNDS") earlier) (field 1 l), SecondSet)
     ∷ (not (is_one_of (column_names earlier) (bound_column l)), UnknownColumn)
     ∷ []))
     (if takes_value (field 0 l) then number_kind (10 ^ 6) (bound_text l) else None)
-  where
-    fits : ℕ → Bool
-    fits n = (takes_value (field 0 l) && (nat_eq n 3 || nat_eq n 4)) || (takes_none (field 0 l) && (nat_eq n 2 || nat_eq n 3 || nat_eq n 4))
 
 -- ---- a line
 

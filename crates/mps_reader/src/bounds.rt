@@ -1,6 +1,8 @@
 // The section BOUNDS: the sides of each column, which later lines set anew.
-ghost use Rattle.std.specs.Prelude.{◌≡◌, ◌<◌, ◌∷◌, [], ℕ, List, IfOk, IfErr, IfSome, IfNone, ◌&&◌, not, true, false, vec_len};
+ghost use Rattle.std.specs.Prelude.{◌≡◌, ◌<◌, ◌∷◌, [], ℕ, List, IfOk, IfErr, IfSome, IfNone, OnOk, length, map, ◌^◌, if◌then◌else◌, ◌&&◌, not, true, false, vec_len};
 ghost use Rattle.mps_reader.specs.MpsLines.{Line, field, bound_text, is_one_of, integer_names, takes_value, takes_none};
+ghost use Rattle.mps_reader.specs.MpsRules.{bound_fits, number_kind};
+ghost use Rattle.mps_reader.specs.BoundLines.{IsBoundLine, IsSetting};
 ghost use Rattle.mps_reader.specs.MpsModels.{number_or_zero, bound_lines, column_end_kind, low_of, high_of};
 ghost use Rattle.mps_reader.specs.ColumnBounds.{value_word, plain_word, with_line, BoundsAgree};
 
@@ -165,50 +167,109 @@ impl Bounds {
     }
 }
 
+// What a line sets its column's bounds to.
+#[derive(Clone, Copy, Debug, PartialEq, Eq)]
+enum Setting<'a> {
+    Value(ValueBound, &'a [u8]),
+    Plain(PlainBound),
+}
+
+// A line of the section.
+#[derive(Clone, Copy, Debug, PartialEq, Eq)]
+struct BoundLine<'a> {
+    setting: Setting<'a>,
+    set: Option<&'a [u8]>,
+    column: &'a [u8],
+}
+
+// The line that fields make behind a type that takes a value.
+fn value_line<'a>(bound: ValueBound, fields: &[&'a [u8]]) -> Result<BoundLine<'a>, MpsKind>
+    ensures ok { IfOk result (λ b. (l : Line) → l.fields ≡ map (λ f. f.now) fields.now → field 0 l ≡ value_word bound → IsBoundLine b l) }
+    ensures err { IfErr result (λ kind. (kind ≡ MpsKind.Fields) × ((l : Line) → l.fields ≡ map (λ f. f.now) fields.now → field 0 l ≡ value_word bound → bound_fits l ≡ false)) }
+{
+    match fields {
+        [_, column, number] => Ok(BoundLine {
+            setting: Setting::Value(bound, *number),
+            set: None,
+            column: *column,
+        }),
+        [_, set, column, number] => Ok(BoundLine {
+            setting: Setting::Value(bound, *number),
+            set: Some(*set),
+            column: *column,
+        }),
+        _ => Err(MpsKind::Fields),
+    }
+}
+
+// The line that fields make behind a type that takes none.
+fn plain_line<'a>(bound: PlainBound, fields: &[&'a [u8]]) -> Result<BoundLine<'a>, MpsKind>
+    ensures ok { IfOk result (λ b. (l : Line) → l.fields ≡ map (λ f. f.now) fields.now → field 0 l ≡ plain_word bound → IsBoundLine b l) }
+    ensures err { IfErr result (λ kind. (kind ≡ MpsKind.Fields) × ((l : Line) → l.fields ≡ map (λ f. f.now) fields.now → field 0 l ≡ plain_word bound → bound_fits l ≡ false)) }
+{
+    match fields {
+        [_, column] => Ok(BoundLine {
+            setting: Setting::Plain(bound),
+            set: None,
+            column: *column,
+        }),
+        [_, set, column] | [_, set, column, _] => Ok(BoundLine {
+            setting: Setting::Plain(bound),
+            set: Some(*set),
+            column: *column,
+        }),
+        _ => Err(MpsKind::Fields),
+    }
+}
+
+// The line that fields make.
+fn bound_line<'a>(fields: &[&'a [u8]]) -> Result<BoundLine<'a>, MpsKind>
+    requires { 0 < length fields.now }
+    ensures ok { IfOk result (λ b. (l : Line) → l.fields ≡ map (λ f. f.now) fields.now → IsBoundLine b l) }
+    ensures err { IfErr result (λ kind. (kind ≡ MpsKind.Fields) × ((l : Line) → l.fields ≡ map (λ f. f.now) fields.now → bound_fits l ≡ false)) }
+{
+    let [word, ..] = fields else {
+        return Err(MpsKind::Fields);
+    };
+    if let Some(bound) = value_bound_named(*word) {
+        return value_line(bound, fields);
+    }
+    match plain_bound_named(*word) {
+        Some(bound) => plain_line(bound, fields),
+        None => Err(MpsKind::Fields),
+    }
+}
+
+impl Bounds {
+    // Takes what a line sets.
+    fn take(&mut self, setting: Setting) -> Result<(), MpsKind>
+        ensures ok { OnOk result ((l : Line) → IsSetting setting.entry l → ((if takes_value (field 0 l) then number_kind (10 ^ 6) (bound_text l) else None) ≡ None) × (self.new ≡ with_line self.old l)) }
+        ensures err { IfErr result (λ kind. (self.new ≡ self.old) × ((l : Line) → IsSetting setting.entry l → (if takes_value (field 0 l) then number_kind (10 ^ 6) (bound_text l) else None) ≡ Some kind)) }
+    {
+        match setting {
+            Setting::Value(bound, number) => {
+                let value = number_within(number, MAX_BOUND)?;
+                self.set_value(bound, value);
+            }
+            Setting::Plain(bound) => self.set_plain(bound),
+        }
+        Ok(())
+    }
+}
+
 /// Takes a line of the section.
 pub(crate) fn take_bound<'a>(
     set: &mut SetName<'a>,
     columns: &mut Columns<'a>,
     fields: &[&'a [u8]],
-) -> Result<(), MpsKind> {
-    let [word, rest @ ..] = fields else {
-        return Err(MpsKind::Fields);
-    };
-    if let Some(bound) = value_bound_named(*word) {
-        let (name, column, number) = match rest {
-            [column, number] => (None, *column, *number),
-            [name, column, number] => (Some(*name), *column, *number),
-            _ => return Err(MpsKind::Fields),
-        };
-        let index = column_of(set, columns, name, column)?;
-        let value = number_within(number, MAX_BOUND)?;
-        let table = &mut columns.table;
-        table.items[index].bounds.set_value(bound, value);
-        return Ok(());
-    }
-    let bound = plain_bound_named(*word).ok_or(MpsKind::Fields)?;
-    let (name, column) = match rest {
-        [column] => (None, *column),
-        [name, column] | [name, column, _] => (Some(*name), *column),
-        _ => return Err(MpsKind::Fields),
-    };
-    let index = column_of(set, columns, name, column)?;
-    let table = &mut columns.table;
-    table.items[index].bounds.set_plain(bound);
-    Ok(())
-}
-
-// The number of the column that a line names, behind the set that it may name.
-fn column_of<'a>(
-    set: &mut SetName<'a>,
-    columns: &Columns<'a>,
-    name: Option<&'a [u8]>,
-    column: &[u8],
-) -> Result<usize, MpsKind>
-    ensures { IfOk result (λ k. k < vec_len columns.now.table.items) }
+) -> Result<(), MpsKind>
+    requires { 0 < length fields.now }
 {
-    if let Some(name) = name {
+    let line = bound_line(fields)?;
+    if let Some(name) = line.set {
         set.accept(name)?;
     }
-    columns.table.find(column).ok_or(MpsKind::UnknownColumn)
+    let index = columns.table.find(line.column).ok_or(MpsKind::UnknownColumn)?;
+    let table = &mut columns.table;
+    table.items[index].bounds.take(line.setting)
 }
