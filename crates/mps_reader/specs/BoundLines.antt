@@ -1,7 +1,11 @@
 -- What a line of BOUNDS says.
-use Rattle.std.specs.Prelude.{◌≡◌, ℕ, true, false, List, Option, Some, None, option_map, if◌then◌else◌}
-use Rattle.mps_reader.specs.MpsLines.{Line, field, takes_value, bound_has_set, bound_column, bound_text}
-use Rattle.mps_reader.specs.MpsRules.{bound_fits}
+use Rattle.std.specs.Prelude.{◌≡◌, ℕ, true, false, List, [], ◌∷◌, ◌&&◌, not, map, codes, Option, Some, None, option_map, if◌then◌else◌}
+use Rattle.mps_reader.specs.MpsLines.{Line, field, takes_value, bound_has_set, bound_column, bound_text, column_names, sets_of, is_one_of}
+use Rattle.std.specs.Borrow.{Bor}
+use Rattle.mps_reader.specs.MpsRules.{bound_fits, first_kind, is_second}
+use Rattle.mps_reader.specs.Sets.{AgreesWith}
+use Rattle.mps_reader.specs.declared.MpsKind.{MpsKind}
+use Rattle.mps_reader.specs.declared.MpsKind.TheVariants.{SecondSet, UnknownColumn}
 use Rattle.mps_reader.specs.ColumnBounds.{value_word, plain_word}
 use Rattle.mps_reader.specs.declared.bounds.Setting.{Setting}
 use Rattle.mps_reader.specs.declared.bounds.Setting.TheVariants.{Value, Plain}
@@ -17,3 +21,15 @@ pub record IsBoundLine (b : BoundLine) (l : Line) : Type 0 where
   pub set : option_map (λ n. n.now) b.set ≡ (if bound_has_set l then Some (field 1 l) else None)
   pub column : bound_column l ≡ b.column.now
   pub setting : IsSetting b.setting l
+
+-- the kinds that come before a line's number
+abbrev pub place_kind : List Line → Line → Option MpsKind
+place_kind earlier l = first_kind (
+    (bound_has_set l && is_second (sets_of (codes "BOUNDS") earlier) (field 1 l), SecondSet)
+    ∷ (not (is_one_of (column_names earlier) (bound_column l)), UnknownColumn)
+    ∷ [])
+
+-- the set and the names of the columns are those of the earlier lines
+pub record BoundsReady (set : Option (Bor (List ℕ))) (keys : List (Bor (List ℕ))) (earlier : List Line) : Type 0 where
+  pub sets : AgreesWith set (sets_of (codes "BOUNDS") earlier)
+  pub names : map (λ k. k.now) keys ≡ column_names earlier

@@ -1,8 +1,10 @@
 // The section BOUNDS: the sides of each column, which later lines set anew.
-ghost use Rattle.std.specs.Prelude.{◌≡◌, ◌<◌, ◌∷◌, [], ℕ, List, IfOk, IfErr, IfSome, IfNone, OnOk, length, map, ◌^◌, if◌then◌else◌, ◌&&◌, not, true, false, vec_len};
-ghost use Rattle.mps_reader.specs.MpsLines.{Line, field, bound_text, is_one_of, integer_names, takes_value, takes_none};
+ghost use Rattle.std.specs.Prelude.{◌≡◌, ◌<◌, ◌∷◌, [], ℕ, List, IfOk, IfErr, IfSome, IfNone, OnOk, ◌++◌, codes, bytes_eq, position, option_map, Option, length, map, ◌^◌, if◌then◌else◌, ◌&&◌, not, true, false, vec_len};
+ghost use Rattle.mps_reader.specs.MpsLines.{Line, field, bound_text, bound_column, is_one_of, integer_names, column_names, sets_of, takes_value, takes_none};
 ghost use Rattle.mps_reader.specs.MpsRules.{bound_fits, number_kind};
-ghost use Rattle.mps_reader.specs.BoundLines.{IsBoundLine, IsSetting};
+ghost use Rattle.mps_reader.specs.BoundLines.{IsBoundLine, IsSetting, BoundsReady, place_kind};
+ghost use Rattle.mps_reader.specs.Sets.{AgreesWith};
+ghost use Rattle.std.specs.List.{cons_option};
 ghost use Rattle.mps_reader.specs.MpsModels.{number_or_zero, bound_lines, column_end_kind, low_of, high_of};
 ghost use Rattle.mps_reader.specs.ColumnBounds.{value_word, plain_word, with_line, BoundsAgree};
 
@@ -257,6 +259,20 @@ impl Bounds {
     }
 }
 
+// The number of the column that a line names, behind the set that it may name.
+fn place_of<'a>(
+    set: &mut SetName<'a>,
+    columns: &Columns<'a>,
+    line: BoundLine<'a>,
+) -> Result<usize, MpsKind>
+    ensures within { IfOk result (λ k. k < vec_len columns.now.table.items) }
+    ensures ok { IfOk result (λ k. (earlier : List Line) (l : Line) → IsBoundLine line.entry l → BoundsReady set.old.first columns.now.table.names.keys earlier → (place_kind earlier l ≡ None) × (position (bytes_eq (bound_column l)) (column_names earlier) ≡ Some k) × AgreesWith set.new.first (sets_of (codes "BOUNDS") earlier ++ cons_option (option_map (λ n. n.now) line.entry.set) [])) }
+    ensures err { IfErr result (λ kind. (earlier : List Line) (l : Line) → IsBoundLine line.entry l → BoundsReady set.old.first columns.now.table.names.keys earlier → place_kind earlier l ≡ Some kind) }
+{
+    set.note(line.set)?;
+    columns.table.find(line.column).ok_or(MpsKind::UnknownColumn)
+}
+
 /// Takes a line of the section.
 pub(crate) fn take_bound<'a>(
     set: &mut SetName<'a>,
@@ -266,10 +282,7 @@ pub(crate) fn take_bound<'a>(
     requires { 0 < length fields.now }
 {
     let line = bound_line(fields)?;
-    if let Some(name) = line.set {
-        set.accept(name)?;
-    }
-    let index = columns.table.find(line.column).ok_or(MpsKind::UnknownColumn)?;
+    let index = place_of(set, columns, line)?;
     let table = &mut columns.table;
     table.items[index].bounds.take(line.setting)
 }

@@ -1,9 +1,10 @@
 // Why a line can't be taken, and the checks that more than one section makes.
-ghost use Rattle.std.specs.Prelude.{◌≡◌, ◌<◌, ◌≤◌, ◌∷◌, ◌++◌, [], List, ℕ, Option, IfOk, IfErr, OnOk, OnErr, length, unsigned_abs, true, false, if◌then◌else◌};
+ghost use Rattle.std.specs.Prelude.{◌≡◌, ◌<◌, ◌≤◌, option_map, ◌∷◌, ◌++◌, [], List, ℕ, Option, IfOk, IfErr, OnOk, OnErr, length, unsigned_abs, true, false, if◌then◌else◌};
 ghost use Rattle.num_text.specs.NumberText.{number_of};
 ghost use Rattle.mps_reader.specs.MpsRules.{number_kind, is_long, is_second};
 ghost use Rattle.mps_reader.specs.Faults.{IsFault};
-ghost use Rattle.mps_reader.specs.Sets.{AgreesWith};
+ghost use Rattle.mps_reader.specs.Sets.{AgreesWith, is_other};
+ghost use Rattle.std.specs.List.{cons_option};
 ghost use Rattle.mps_reader.specs.declared.fault.Fault.TheVariants as fault;
 
 use crate::{MpsError, MpsKind};
@@ -114,5 +115,16 @@ impl<'a> SetName<'a> {
             }
         }
         Ok(())
+    }
+
+    /// Notes the set that a line may name.
+    pub(crate) fn note(&mut self, name: Option<&'a [u8]>) -> Result<(), MpsKind>
+        ensures ok { OnOk result ((sets : List (List ℕ)) → AgreesWith self.old.first sets → (is_other sets (option_map (λ n. n.now) name.entry) ≡ false) × AgreesWith self.new.first (sets ++ cons_option (option_map (λ n. n.now) name.entry) [])) }
+        ensures err { IfErr result (λ kind. (kind ≡ MpsKind.SecondSet) × ((sets : List (List ℕ)) → AgreesWith self.old.first sets → is_other sets (option_map (λ n. n.now) name.entry) ≡ true)) }
+    {
+        match name {
+            Some(name) => self.accept(name),
+            None => Ok(()),
+        }
     }
 }
