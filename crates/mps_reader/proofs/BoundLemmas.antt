@@ -1,16 +1,22 @@
 -- How one more line of BOUNDS continues what the lines have said of a column.
-use Rattle.std.proofs.Common.{◌≡◌, ◌∙◌, ap, sym, ℕ, Bool, true, false, not, ◌||◌, cond, List, [], ◌∷◌, ◌++◌, length, length-append, Option, Some, None, refl, suc, arith, append-nil}
-use Rattle.std.specs.Prelude.{filter, filter_map, if◌then◌else◌, nat_eq, is_some}
+use Rattle.std.proofs.Common.{◌≡◌, ◌∙◌, ap, sym, ℕ, Bool, true, false, not, ◌||◌, cond, List, [], ◌∷◌, ◌++◌, length, length-append, Option, Some, None, refl, suc, arith, append-nil, get_or, ◌<◌}
+use Rattle.std.specs.Prelude.{filter, filter_map, if◌then◌else◌, nat_eq, is_some, codes, option_map, slice_set}
 use Rattle.std.specs.List.{list_any, cons_option}
 use Rattle.std.specs.Option.{option_map_or}
 use Rattle.std.proofs.lemmas.Bool.{ne_eqb}
 use Rattle.std.proofs.lemmas.List.Elements.{filter-append}
 use Rattle.num_text.specs.Words.{last_of}
-use Rattle.mps_reader.specs.MpsLines.{Line}
+use Rattle.std.proofs.lemmas.List.{get_or_read}
+use Rattle.mps_reader.specs.MpsLines.{Line, is_data_of, data_of, sets_of}
+use Rattle.mps_reader.specs.TakenLines.{IsDataWith}
+use Rattle.mps_reader.specs.BoundLines.{IsBoundLine}
+use Rattle.mps_reader.specs.ColumnTables.{with_bound}
+use Rattle.mps_reader.specs.declared.bounds.BoundLine.{BoundLine}
+use Rattle.mps_reader.specs.declared.columns.ColumnDraft.{ColumnDraft}
 use Rattle.mps_reader.specs.MpsModels.{low_set, high_set, sets_high, sets_integer, is_negative_upper}
 use Rattle.mps_reader.specs.ColumnBounds.{last_setting, with_line, BoundsAgree}
 use Rattle.mps_reader.specs.declared.bounds.Bounds.{Bounds}
-use Rattle.mps_reader.proofs.OpeningLemmas.{filter_map-append, list_any-append, or-true, or-false}
+use Rattle.mps_reader.proofs.OpeningLemmas.{filter_map-append, list_any-append, bytes_eq-refl, or-true, or-false}
 
 module _ {X : Type 0} where
   pub last_of-push : (xs : List X) (x : X) → last_of (xs ++ x ∷ []) ≡ Some x
@@ -44,3 +50,21 @@ bound_added b lines l a = record {
   high = ap (λ o. last_setting o (high_set l)) a.high ∙ sym (last_set high_set lines l);
   negative_upper = last_passing (sets_high l) is_negative_upper (filter sets_high lines) l b.has_negative_upper a.negative_upper ∙ ap (λ r. option_map_or is_negative_upper (last_of r) false) (sym (filter-append sets_high lines (l ∷ [])));
 }
+
+-- ---- a line among the earlier ones
+
+pub one_data : (section : List ℕ) (l : Line) (words : List (List ℕ)) → IsDataWith section l words → data_of section (l ∷ []) ≡ l ∷ []
+one_data section l words d = rw (d.header, d.section, bytes_eq-refl section) refl
+
+pub data_then : (section : List ℕ) (earlier : List Line) (l : Line) (words : List (List ℕ)) → IsDataWith section l words → data_of section (earlier ++ l ∷ []) ≡ data_of section earlier ++ l ∷ []
+data_then section earlier l words d = filter-append (is_data_of section) earlier (l ∷ []) ∙ ap (λ r. data_of section earlier ++ r) (one_data section l words d)
+
+pub bound_sets : (earlier : List Line) (l : Line) (words : List (List ℕ)) (b : BoundLine) → IsDataWith (codes "BOUNDS") l words → IsBoundLine b l → sets_of (codes "BOUNDS") (earlier ++ l ∷ []) ≡ sets_of (codes "BOUNDS") earlier ++ cons_option (option_map (λ n. n.now) b.set) []
+bound_sets earlier l words b d is =
+    rw (data_then (codes "BOUNDS") earlier l words d, is.set) (filter_map-append _ (data_of (codes "BOUNDS") earlier) (l ∷ []))
+
+pub bound_written : (items : List ColumnDraft) (i k : ℕ) (d r : ColumnDraft) (l : Line) (b : Bounds) → i < length items → r ≡ get_or items i r → Some i ≡ Some k → b ≡ with_line r.bounds l → slice_set items i (record r { bounds = b }) ≡ slice_set items k (with_bound (get_or items k d) l)
+bound_written items i k d r l b h here same e =
+    let at : i ≡ k = cc in
+    let read : get_or items i d ≡ r = sym (get_or_read items i r h here d) in
+    rw (← at, read, e) refl

@@ -8,3 +8,4 @@ pub mod Openings
 pub mod TakenLines
 pub mod ColumnBounds
 pub mod BoundLines
+pub mod ColumnTables

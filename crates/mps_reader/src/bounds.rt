@@ -1,8 +1,11 @@
 // The section BOUNDS: the sides of each column, which later lines set anew.
-ghost use Rattle.std.specs.Prelude.{◌≡◌, ◌<◌, ◌∷◌, [], ℕ, List, IfOk, IfErr, IfSome, IfNone, OnOk, ◌++◌, codes, bytes_eq, position, option_map, Option, length, map, ◌^◌, if◌then◌else◌, ◌&&◌, not, true, false, vec_len};
+ghost use Rattle.std.specs.Prelude.{◌≡◌, ◌<◌, ◌∷◌, [], ℕ, List, IfOk, IfErr, IfSome, IfNone, OnOk, slice_set, slice_index_or, ◌++◌, codes, bytes_eq, position, option_map, Option, length, map, ◌^◌, if◌then◌else◌, ◌&&◌, not, true, false, vec_len};
 ghost use Rattle.mps_reader.specs.MpsLines.{Line, field, bound_text, bound_column, is_one_of, integer_names, column_names, sets_of, takes_value, takes_none};
-ghost use Rattle.mps_reader.specs.MpsRules.{bound_fits, number_kind};
+ghost use Rattle.mps_reader.specs.MpsRules.{bound_fits, bound_kind, number_kind};
 ghost use Rattle.mps_reader.specs.BoundLines.{IsBoundLine, IsSetting, BoundsReady, place_kind};
+ghost use Rattle.mps_reader.specs.TakenLines.{IsDataWith};
+ghost use Rattle.mps_reader.specs.ColumnTables.{with_bound};
+ghost use Rattle.mps_reader.specs.declared.columns.ColumnDraft.{ColumnDraft};
 ghost use Rattle.mps_reader.specs.Sets.{AgreesWith};
 ghost use Rattle.std.specs.List.{cons_option};
 ghost use Rattle.mps_reader.specs.MpsModels.{number_or_zero, bound_lines, column_end_kind, low_of, high_of};
@@ -280,9 +283,15 @@ pub(crate) fn take_bound<'a>(
     fields: &[&'a [u8]],
 ) -> Result<(), MpsKind>
     requires { 0 < length fields.now }
+    ensures names { columns.new.table.names ≡ columns.old.table.names }
+    ensures kind { OnOk result ((earlier : List Line) (l : Line) → IsDataWith (codes "BOUNDS") l (map (λ f. f.now) fields.now) → BoundsReady set.old.first columns.old.table.names.keys earlier → bound_kind earlier l ≡ None) }
+    ensures sets { OnOk result ((earlier : List Line) (l : Line) → IsDataWith (codes "BOUNDS") l (map (λ f. f.now) fields.now) → BoundsReady set.old.first columns.old.table.names.keys earlier → AgreesWith set.new.first (sets_of (codes "BOUNDS") (earlier ++ l ∷ []))) }
+    ensures bounds { OnOk result ((earlier : List Line) (l : Line) (k : ℕ) (d : ColumnDraft) → IsDataWith (codes "BOUNDS") l (map (λ f. f.now) fields.now) → BoundsReady set.old.first columns.old.table.names.keys earlier → position (bytes_eq (bound_column l)) (column_names earlier) ≡ Some k → columns.new.table.items.items ≡ slice_set columns.old.table.items.items k (with_bound (slice_index_or columns.old.table.items.items k d) l)) }
+    ensures err { IfErr result (λ kind. (earlier : List Line) (l : Line) → IsDataWith (codes "BOUNDS") l (map (λ f. f.now) fields.now) → BoundsReady set.old.first columns.old.table.names.keys earlier → bound_kind earlier l ≡ Some kind) }
 {
     let line = bound_line(fields)?;
     let index = place_of(set, columns, line)?;
     let table = &mut columns.table;
-    table.items[index].bounds.take(line.setting)
+    table.items[index].bounds.take(line.setting)?;
+    Ok(())
 }
