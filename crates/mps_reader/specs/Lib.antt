@@ -9,3 +9,5 @@ pub mod TakenLines
 pub mod ColumnBounds
 pub mod BoundLines
 pub mod ColumnTables
+pub mod RowTables
+pub mod BegunRows
