@@ -5,3 +5,4 @@ pub mod FaultLemmas
 pub mod FieldLemmas
 pub mod NamedLemmas
 pub mod BoundLemmas
+pub mod EndLemmas

@@ -11,3 +11,4 @@ pub mod BoundLines
 pub mod ColumnTables
 pub mod RowTables
 pub mod BegunRows
+pub mod EndedColumns

@@ -1,5 +1,9 @@
 // The model of a text, as far as its lines have been read.
-ghost use Rattle.std.specs.Prelude.{◌<◌, All, length};
+ghost use Rattle.std.specs.Prelude.{◌≡◌, ◌<◌, All, List, length, map, IfOk, IfErr};
+ghost use Rattle.mps_reader.specs.MpsLines.{Line};
+ghost use Rattle.mps_reader.specs.MpsModels.{column_end_kind, end_kind};
+ghost use Rattle.mps_reader.specs.Faults.{IsFault};
+ghost use Rattle.mps_reader.specs.EndedColumns.{IsColumnOf, part_of};
 
 use crate::MpsKind;
 use crate::bounds::take_bound;
@@ -101,7 +105,7 @@ impl<'a> Draft<'a> {
             range_set: _,
             bound_set: _,
         } = self;
-        let columns = column_parts(alloc, columns)?;
+        let columns = column_parts(alloc, columns.into_items())?;
         let (constant, rows) = rows.into_rows(alloc)?;
         let parts = Parts {
             columns,
@@ -113,15 +117,21 @@ impl<'a> Draft<'a> {
     }
 }
 
-fn column_parts(alloc: Global, columns: Columns) -> Result<Vec<ColumnPart>, Fault> {
+fn column_parts(alloc: Global, columns: Vec<ColumnDraft>) -> Result<Vec<ColumnPart>, Fault>
+    ensures ok { IfOk result (λ parts. (ls : List Line) → All (IsColumnOf ls) columns.items → (end_kind ls (map (λ c. c.name) columns.items) ≡ None) × (parts.items ≡ map (part_of ls) columns.items)) }
+    ensures err { IfErr result (λ fault. (ls : List Line) → All (IsColumnOf ls) columns.items → IsFault fault (end_kind ls (map (λ c. c.name) columns.items))) }
+{
     let mut parts = Vec::new(alloc);
-    for draft in columns.into_items() {
+    for draft in columns {
         parts.push(column_part(draft)?)?;
     }
     Ok(parts)
 }
 
-fn column_part(draft: ColumnDraft) -> Result<ColumnPart, MpsKind> {
+fn column_part(draft: ColumnDraft) -> Result<ColumnPart, MpsKind>
+    ensures ok { IfOk result (λ part. (ls : List Line) → IsColumnOf ls draft → (column_end_kind ls draft.name ≡ None) × (part ≡ part_of ls draft)) }
+    ensures err { IfErr result (λ kind. (ls : List Line) → IsColumnOf ls draft → column_end_kind ls draft.name ≡ Some kind) }
+{
     let (low, high) = draft.bounds.sides(draft.is_marked)?;
     Ok(ColumnPart {
         name: draft.name,

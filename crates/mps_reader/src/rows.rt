@@ -1,5 +1,5 @@
 // The section ROWS: the objective, and the rows with a sense.
-ghost use Rattle.std.specs.Prelude.{◌≡◌, ◌<◌, ◌≤◌, ◌+◌, ◌∷◌, ◌++◌, ◌&&◌, ◌||◌, [], List, All, length, unsigned_abs, IfOk, IfErr, OnOk, true, false, is_some, is_none, nat_le, map, codes, if◌then◌else◌};
+ghost use Rattle.std.specs.Prelude.{◌≡◌, ◌<◌, ◌≤◌, ◌+◌, ◌∷◌, ◌++◌, ◌&&◌, ◌||◌, [], List, All, length, unsigned_abs, IfOk, IfErr, OnOk, true, false, is_some, is_none, nat_le, neg_ℤ, pos, unwrap_or, map, codes, if◌then◌else◌};
 ghost use Rattle.mps_reader.specs.MpsLines.{Line, is_one_of};
 ghost use Rattle.mps_reader.specs.MpsRules.{row_kind};
 ghost use Rattle.mps_reader.specs.Faults.{IsFault};
@@ -62,6 +62,7 @@ fn sense_named(word: &[u8]) -> Result<Option<RowSense>, MpsKind>
 // The objective's constant is its right-hand side with the other sign.
 fn constant_of(rhs: Option<i64>) -> i64
     requires { ForSome rhs (λ z. unsigned_abs z ≤ 1000000000000000000) }
+    ensures { result ≡ neg_ℤ (unwrap_or rhs (pos 0)) }
 {
     match rhs {
         Some(value) => -value,
