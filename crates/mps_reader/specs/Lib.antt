@@ -12,3 +12,4 @@ pub mod ColumnTables
 pub mod RowTables
 pub mod BegunRows
 pub mod EndedColumns
+pub mod SideNumbers
