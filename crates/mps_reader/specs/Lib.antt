@@ -13,3 +13,4 @@ pub mod RowTables
 pub mod BegunRows
 pub mod EndedColumns
 pub mod SideNumbers
+pub mod ColumnNumbers

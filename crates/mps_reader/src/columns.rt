@@ -1,5 +1,9 @@
 // The section COLUMNS: markers of integer parts, and each column's numbers for its rows.
-ghost use Rattle.std.specs.Prelude.{◌≡◌, ◌≤◌, ◌<◌, IfOk, All, length, vec_len};
+ghost use Rattle.std.specs.Prelude.{◌≡◌, ◌≤◌, ◌<◌, ◌+◌, ◌∷◌, ◌++◌, ◌⊎◌, [], IfOk, IfErr, OnOk, All, length, map, option_map, codes, bytes_eq, true, false, vec_len};
+ghost use Rattle.mps_reader.specs.MpsLines.{Line, field, is_one_of};
+ghost use Rattle.mps_reader.specs.MpsRules.{marker_kind};
+ghost use Rattle.mps_reader.specs.Faults.{IsFault};
+ghost use Rattle.mps_reader.specs.ColumnNumbers.{new_column_kind};
 
 use crate::MpsKind;
 use crate::bounds::Bounds;
@@ -34,6 +38,20 @@ const MAX_COLUMNS: usize = 1_000;
 const MAX_ENTRIES: usize = 100_000;
 
 const MAX_ENTRY: u64 = 1_000_000_000;
+
+// Whether a marker's word begins an integer part, or ends one.
+fn begins_part(word: &[u8]) -> Result<bool, MpsKind>
+    ensures ok { IfOk result (λ begins. (is_one_of (codes "'INTORG'" ∷ codes "'INTEND'" ∷ []) word.now ≡ true) × (begins ≡ bytes_eq word.now (codes "'INTORG'"))) }
+    ensures err { IfErr result (λ kind. (kind ≡ MpsKind.Fields) × (is_one_of (codes "'INTORG'" ∷ codes "'INTEND'" ∷ []) word.now ≡ false)) }
+{
+    if word == b"'INTORG'".as_slice() {
+        Ok(true)
+    } else if word == b"'INTEND'".as_slice() {
+        Ok(false)
+    } else {
+        Err(MpsKind::Fields)
+    }
+}
 
 impl<'a> Columns<'a> {
     pub(crate) fn new(alloc: Global) -> Self {
@@ -80,12 +98,16 @@ impl<'a> Columns<'a> {
     }
 
     // A marker begins or ends an integer part, and ends the column before it.
-    fn take_marker(&mut self, fields: &[&'a [u8]]) -> Result<(), MpsKind> {
-        match fields {
-            [_, _, b"'INTORG'"] => self.in_integer_part = true,
-            [_, _, b"'INTEND'"] => self.in_integer_part = false,
-            _ => return Err(MpsKind::Fields),
-        }
+    fn take_marker(&mut self, fields: &[&'a [u8]]) -> Result<(), MpsKind>
+        ensures table { self.new.table ≡ self.old.table }
+        ensures current { OnOk result (self.new.current ≡ None) }
+        ensures ok { OnOk result ((l : Line) → l.fields ≡ map (λ f. f.now) fields.now → (marker_kind l ≡ None) × (self.new.in_integer_part ≡ bytes_eq (field 2 l) (codes "'INTORG'"))) }
+        ensures err { IfErr result (λ kind. (l : Line) → l.fields ≡ map (λ f. f.now) fields.now → marker_kind l ≡ Some kind) }
+    {
+        let [_, _, word] = fields else {
+            return Err(MpsKind::Fields);
+        };
+        self.in_integer_part = begins_part(*word)?;
         self.current = None;
         Ok(())
     }
@@ -93,7 +115,12 @@ impl<'a> Columns<'a> {
     // The number of the column that a line names: the current one, or a new one.
     fn column_named(&mut self, alloc: Global, field: &'a [u8]) -> Result<u32, Fault>
         requires { 0 < length field.now }
-        ensures { IfOk result (λ k. k < vec_len self.new.table.items) }
+        ensures within { IfOk result (λ k. k < vec_len self.new.table.items) }
+        ensures same { self.new.in_integer_part ≡ self.old.in_integer_part }
+        ensures last { IfOk result (λ k. k + 1 ≡ vec_len self.new.table.items) }
+        ensures current { OnOk result (option_map (λ c. c.now) self.new.current ≡ Some field.entry.now) }
+        ensures names { OnOk result ((map (λ k. k.now) self.new.table.names.keys ≡ map (λ k. k.now) self.old.table.names.keys) ⊎ (map (λ k. k.now) self.new.table.names.keys ≡ map (λ k. k.now) self.old.table.names.keys ++ field.entry.now ∷ [])) }
+        ensures err { IfErr result (λ fault. IsFault fault (new_column_kind (map (λ k. k.now) self.old.table.names.keys) (vec_len self.old.table.items) field.entry.now)) }
     {
         let count = self.table.items.len();
         if self.current == Some(field) && count > 0 {
