@@ -94,7 +94,7 @@ none_of (w ∷ words) = sym (ne_eqb (suc (length words)) 0 (λ e. omega arith))
 pub lacks_same : (h : Headers) (earlier : List Line) → HeadersAgree h earlier → (list_any (λ s. bytes_eq (codes "OBJSENSE") (word_of s)) h.seen.items && is_none h.direction) ≡ lacks_direction earlier
 lacks_same h earlier a =
     let one : list_any (λ s. bytes_eq (codes "OBJSENSE") (word_of s)) h.seen.items ≡ is_one_of (headers_of earlier) (codes "OBJSENSE") =
-      sym (list_any-map (bytes_eq (codes "OBJSENSE")) word_of h.seen.items) ∙ ap (list_any (bytes_eq (codes "OBJSENSE"))) a.seen in
+    sym (list_any-map (bytes_eq (codes "OBJSENSE")) word_of h.seen.items) ∙ ap (list_any (bytes_eq (codes "OBJSENSE"))) a.seen in
     let two : is_none h.direction ≡ nat_eq (length (direction_words earlier)) 0 = ap is_none a.direction ∙ none_of (direction_words earlier) in
     rw (one, two) refl
 
@@ -130,13 +130,14 @@ direction_taken h new earlier l w words a d last none here good seen given =
     let empty : direction_words earlier ≡ [] = none_words (direction_words earlier) (sym a.direction ∙ none) in
     let now : direction_words (earlier ++ l ∷ []) ≡ w ∷ [] = direction_words-append earlier (l ∷ []) ∙ ap (λ r. r ++ direction_words (l ∷ [])) empty ∙ data_word l d.header d.section ∙ ap (λ v. v ∷ []) here in
     let same : headers_of (earlier ++ l ∷ []) ≡ headers_of earlier = headers_of-data earlier l d.header in
-    let fine : is_direction (field 0 l) ≡ true = ap is_direction here ∙ good in
-    (rw (empty, fine) refl,
-     record {
-       seen = ap (λ v. words_of v.items) seen ∙ a.seen ∙ sym same;
-       direction = given ∙ ap (λ b. Some (if b then Max else Min)) (sym (or-false (is_maximum w))) ∙ ap direction_of (sym now);
-       asked = λ no. absurd (true≢false (sym (last_in (headers_of earlier) (codes "OBJSENSE") last) ∙ ap (λ r. is_one_of r (codes "OBJSENSE")) (sym same) ∙ no));
-     })
+    let fine : is_direction (field 0 l) ≡ true = ap is_direction here ∙ good in (
+      rw (empty, fine) refl,
+      record {
+        seen = ap (λ v. words_of v.items) seen ∙ a.seen ∙ sym same;
+        direction = given ∙ ap (λ b. Some (if b then Max else Min)) (sym (or-false (is_maximum w))) ∙ ap direction_of (sym now);
+        asked = λ no. absurd (true≢false (sym (last_in (headers_of earlier) (codes "OBJSENSE") last) ∙ ap (λ r. is_one_of r (codes "OBJSENSE")) (sym same) ∙ no));
+      },
+    )
 
 pub direction_refused : (earlier : List Line) (l : Line) → direction_words earlier ≡ [] → is_direction (field 0 l) ≡ false → direction_kind earlier l ≡ Some kind.Fields
 direction_refused earlier l e bad = rw (e, bad) refl
@@ -209,14 +210,15 @@ entered h new earlier l w rest s a is lacks named follows g seen =
     let good : GivesDirection h.direction (header_words l.section rest) new.direction = subst (λ (x : List ℕ). GivesDirection h.direction (header_words x rest) new.direction) (named ∙ sym here) g in
     let adds : direction_words (earlier ++ l ∷ []) ≡ direction_words earlier ++ header_words l.section rest = direction_words-append earlier (l ∷ []) ∙ ap (λ r. direction_words earlier ++ r) (header_adds l w rest is.header is.fields) in
     let first : bytes_eq l.section (codes "OBJSENSE") ≡ true → direction_words earlier ≡ [] =
-      λ e. a.asked (follows_names (headers_of earlier) (ap (may_follow (headers_of earlier)) (sym ((bytes_eq-Decides l.section (codes "OBJSENSE")).0 e)) ∙ may)) in
-    (rw (may, lacks, third l w rest h.direction new.direction is.fields good) refl,
-     named ∙ sym here,
-     record {
-       seen = ap words_of seen ∙ map-append word_of h.seen.items (s ∷ []) ∙ ap (λ r. r ++ word_of s ∷ []) a.seen ∙ ap (λ n. headers_of earlier ++ n ∷ []) (named ∙ sym here) ∙ sym (headers_of-header earlier l is.header);
-       direction = direction_then l.section rest h.direction new.direction (direction_words earlier) a.direction first good ∙ ap direction_of (sym adds);
-       asked = λ no.
-         let parts = or-parts (is_one_of (headers_of earlier) (codes "OBJSENSE")) (is_one_of (l.section ∷ []) (codes "OBJSENSE")) (sym (list_any-append (bytes_eq (codes "OBJSENSE")) (headers_of earlier) (l.section ∷ [])) ∙ ap (λ r. is_one_of r (codes "OBJSENSE")) (sym (headers_of-header earlier l is.header)) ∙ no) in
-         let other : bytes_eq l.section (codes "OBJSENSE") ≡ false = bytes_eq-sym l.section (codes "OBJSENSE") ∙ sym (or-false (bytes_eq (codes "OBJSENSE") l.section)) ∙ parts.1 in
-         adds ∙ ap (λ r. direction_words earlier ++ r) (no_header_words l.section rest other) ∙ append-nil (direction_words earlier) ∙ a.asked parts.0;
-     })
+    λ e. a.asked (follows_names (headers_of earlier) (ap (may_follow (headers_of earlier)) (sym ((bytes_eq-Decides l.section (codes "OBJSENSE")).0 e)) ∙ may)) in (
+      rw (may, lacks, third l w rest h.direction new.direction is.fields good) refl,
+      named ∙ sym here,
+      record {
+        seen = ap words_of seen ∙ map-append word_of h.seen.items (s ∷ []) ∙ ap (λ r. r ++ word_of s ∷ []) a.seen ∙ ap (λ n. headers_of earlier ++ n ∷ []) (named ∙ sym here) ∙ sym (headers_of-header earlier l is.header);
+        direction = direction_then l.section rest h.direction new.direction (direction_words earlier) a.direction first good ∙ ap direction_of (sym adds);
+        asked = λ no.
+            let parts = or-parts (is_one_of (headers_of earlier) (codes "OBJSENSE")) (is_one_of (l.section ∷ []) (codes "OBJSENSE")) (sym (list_any-append (bytes_eq (codes "OBJSENSE")) (headers_of earlier) (l.section ∷ [])) ∙ ap (λ r. is_one_of r (codes "OBJSENSE")) (sym (headers_of-header earlier l is.header)) ∙ no) in
+            let other : bytes_eq l.section (codes "OBJSENSE") ≡ false = bytes_eq-sym l.section (codes "OBJSENSE") ∙ sym (or-false (bytes_eq (codes "OBJSENSE") l.section)) ∙ parts.1 in
+            adds ∙ ap (λ r. direction_words earlier ++ r) (no_header_words l.section rest other) ∙ append-nil (direction_words earlier) ∙ a.asked parts.0;
+      },
+    )

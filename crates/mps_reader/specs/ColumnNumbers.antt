@@ -1,5 +1,5 @@
 -- The number that a column gives for one row.
-use Rattle.std.specs.Prelude.{◌≡◌, ℕ, ◌^◌, Bool, true, false, ◌&&◌, nat_le, List, [], ◌∷◌, Option, Some, None, if◌then◌else◌}
+use Rattle.std.specs.Prelude.{◌≡◌, ℕ, ◌^◌, Bool, true, false, ◌&&◌, nat_le, nat_eq, List, [], ◌∷◌, Option, Some, None, if◌then◌else◌}
 use Rattle.mps_reader.specs.MpsRules.{first_kind, or_else, number_kind, is_nonzero, is_long}
 use Rattle.mps_reader.specs.MpsLines.{is_one_of}
 use Rattle.mps_reader.specs.declared.MpsKind.{MpsKind}
@@ -26,3 +26,8 @@ number_for_kind role is_given entries text =
 -- why a new column is refused, behind columns with these names
 abbrev pub new_column_kind : List (List ℕ) → ℕ → List ℕ → Option MpsKind
 new_column_kind names count name = first_kind ((is_long name, LongName) ∷ (is_one_of names name, Duplicate) ∷ (nat_le 1000 count, TooMany) ∷ [])
+
+-- the column has given the row a number already
+abbrev pub is_column : Option ℕ → ℕ → Bool
+is_column None column = false
+is_column (Some last) column = nat_eq last column

@@ -157,7 +157,11 @@ impl Bounds {
             return Err(MpsKind::NegativeUpper);
         }
         let low = self.low.unwrap_or(Some(0));
-        let high = self.high.unwrap_or(if self.is_implied(is_marked) { Some(1) } else { None });
+        let high = self.high.unwrap_or(if self.is_implied(is_marked) {
+            Some(1)
+        } else {
+            None
+        });
         if low.is_none() || high.is_none() {
             return Err(MpsKind::Unbounded);
         }
@@ -273,7 +277,10 @@ fn place_of<'a>(
     ensures err { IfErr result (λ kind. (earlier : List Line) (l : Line) → IsBoundLine line.entry l → BoundsReady set.old.first columns.now.table.names.keys earlier → place_kind earlier l ≡ Some kind) }
 {
     set.note(line.set)?;
-    columns.table.find(line.column).ok_or(MpsKind::UnknownColumn)
+    columns
+        .table
+        .find(line.column)
+        .ok_or(MpsKind::UnknownColumn)
 }
 
 /// Takes a line of the section.

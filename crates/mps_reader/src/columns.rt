@@ -1,15 +1,16 @@
 // The section COLUMNS: markers of integer parts, and each column's numbers for its rows.
-ghost use Rattle.std.specs.Prelude.{◌≡◌, ◌≤◌, ◌<◌, ◌+◌, ◌∷◌, ◌++◌, ◌⊎◌, [], IfOk, IfErr, OnOk, All, length, map, option_map, codes, bytes_eq, true, false, vec_len};
+ghost use Rattle.std.specs.Prelude.{◌≡◌, ◌≤◌, ◌<◌, ◌+◌, ◌∷◌, ◌++◌, ◌⊎◌, [], IfOk, IfErr, IfSome, OnOk, pos, ◌≢◌, if◌then◌else◌, All, length, map, option_map, codes, bytes_eq, true, false, vec_len};
 ghost use Rattle.mps_reader.specs.MpsLines.{Line, field, is_one_of};
 ghost use Rattle.mps_reader.specs.MpsRules.{marker_kind};
 ghost use Rattle.mps_reader.specs.Faults.{IsFault};
-ghost use Rattle.mps_reader.specs.ColumnNumbers.{new_column_kind};
+ghost use Rattle.mps_reader.specs.ColumnNumbers.{new_column_kind, number_for_kind, makes_term, is_unread, is_column};
+ghost use Rattle.mps_reader.specs.MpsModels.{number_or_zero};
 
 use crate::MpsKind;
 use crate::bounds::Bounds;
 use crate::fault::{Fault, name_of, number_within};
 use crate::named::Named;
-use crate::rows::{RowRole, Rows};
+use crate::rows::{RowDraft, RowRole, Rows};
 use int_model::Name;
 use std::alloc::Global;
 
@@ -158,26 +159,50 @@ impl<'a> Columns<'a> {
         let index = rows.table.find(row).ok_or(MpsKind::UnknownRow)?;
         let table = &mut rows.table;
         let draft = &mut table.items[index];
-        if draft.role == RowRole::Dropped {
+        let Some(value) = value_for(draft, column, self.entries, number)? else {
             return Ok(());
-        }
-        if draft.last_column == Some(column) {
-            return Err(Fault::Refused(MpsKind::Duplicate));
-        }
-        let value = number_within(number, MAX_ENTRY)?;
+        };
         draft.last_column = Some(column);
-        if draft.role == RowRole::Objective {
-            let columns = &mut self.table;
-            columns.items[column as usize].cost = value;
-            return Ok(());
-        }
-        if value != 0 {
-            if self.entries >= MAX_ENTRIES {
-                return Err(Fault::Refused(MpsKind::TooMany));
+        match draft.role {
+            RowRole::Dropped => {}
+            RowRole::Objective => {
+                let columns = &mut self.table;
+                columns.items[column as usize].cost = value;
             }
-            self.entries += 1;
-            draft.terms.push((column, value))?;
+            RowRole::Kept(_) => {
+                if value != 0 {
+                    self.entries += 1;
+                    draft.terms.push((column, value))?;
+                }
+            }
         }
         Ok(())
     }
+}
+
+// The number that a column gives for a row, None where the row's numbers are not read. `entries` counts the terms
+// of the rows so far.
+fn value_for(
+    draft: &RowDraft,
+    column: u32,
+    entries: usize,
+    number: &[u8],
+) -> Result<Option<i64>, MpsKind>
+    ensures ok { IfOk result (λ value. (number_for_kind draft.now.role (is_column draft.now.last_column column) entries number.now ≡ None) × (value ≡ (if is_unread draft.now.role then None else Some (number_or_zero number.now)))) }
+    ensures few { IfOk result (λ value. IfSome value (λ z. z ≢ pos 0 → makes_term draft.now.role ≡ true → entries < 100000)) }
+    ensures err { IfErr result (λ kind. number_for_kind draft.now.role (is_column draft.now.last_column column) entries number.now ≡ Some kind) }
+{
+    if matches!(draft.role, RowRole::Dropped) {
+        return Ok(None);
+    }
+    if draft.last_column == Some(column) {
+        return Err(MpsKind::Duplicate);
+    }
+    let value = number_within(number, MAX_ENTRY)?;
+    if matches!(draft.role, RowRole::Kept(_)) {
+        if value != 0 && entries >= MAX_ENTRIES {
+            return Err(MpsKind::TooMany);
+        }
+    }
+    Ok(Some(value))
 }

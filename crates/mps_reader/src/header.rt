@@ -120,7 +120,9 @@ impl Headers {
     fn is_before_rows(&self) -> bool
         ensures { result ≡ list_all (λ s. is_one_of (codes "NAME" ∷ codes "OBJSENSE" ∷ []) (word_of s)) self.now.seen.items }
     {
-        self.seen.iter().all(|seen| matches!(*seen, Section::Name | Section::ObjSense))
+        self.seen
+            .iter()
+            .all(|seen| matches!(*seen, Section::Name | Section::ObjSense))
     }
 
     #[tactic(auto, using(crate::proofs::HeaderLemmas::by_words))]
@@ -159,7 +161,11 @@ impl Headers {
     }
 
     // The direction behind a header with these further fields.
-    fn direction_after(&self, section: Section, rest: &[&[u8]]) -> Result<Option<Direction>, MpsKind>
+    fn direction_after(
+        &self,
+        section: Section,
+        rest: &[&[u8]],
+    ) -> Result<Option<Direction>, MpsKind>
         ensures ok { IfOk result (λ d. GivesDirection self.now.direction (header_words (word_of section) (map (λ f. f.now) rest.now)) d) }
         ensures err { IfErr result (λ kind. (kind ≡ MpsKind.Fields) × RefusesDirection (header_words (word_of section) (map (λ f. f.now) rest.now))) }
     {

@@ -79,11 +79,7 @@ impl<'a> Rows<'a> {
         }
     }
 
-    pub(crate) fn take_line(
-        &mut self,
-        alloc: Global,
-        fields: &[&'a [u8]],
-    ) -> Result<(), Fault>
+    pub(crate) fn take_line(&mut self, alloc: Global, fields: &[&'a [u8]]) -> Result<(), Fault>
         requires { All (λ f. 0 < length f.now) fields.now }
         ensures kind { OnOk result ((earlier : List Line) (l : Line) → IsDataWith (codes "ROWS") l (map (λ f. f.now) fields.now) → RowsReady self.old.table.names.keys self.old.kept self.old.has_objective earlier → row_kind earlier l ≡ None) }
         ensures ready { OnOk result ((earlier : List Line) (l : Line) → IsDataWith (codes "ROWS") l (map (λ f. f.now) fields.now) → RowsReady self.old.table.names.keys self.old.kept self.old.has_objective earlier → RowsReady self.new.table.names.keys self.new.kept self.new.has_objective (earlier ++ l ∷ [])) }
