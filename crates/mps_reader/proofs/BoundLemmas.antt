@@ -1,7 +1,7 @@
 -- How one more line of BOUNDS continues what the lines have said of a column.
-use Rattle.std.proofs.Common.{◌≡◌, ◌∙◌, ap, sym, ℕ, Bool, true, false, not, ◌||◌, cond, List, [], ◌∷◌, ◌++◌, length, length-append, Option, Some, None, refl, suc, arith, append-nil, get_or, ◌<◌}
-use Rattle.std.specs.Prelude.{filter, filter_map, if◌then◌else◌, nat_eq, is_some, codes, option_map, slice_set}
-use Rattle.std.specs.List.{list_any, cons_option}
+use Rattle.std.proofs.Common.{◌≡◌, ◌∙◌, ap, sym, ℕ, Bool, true, false, not, ◌||◌, cond, List, [], ◌∷◌, ◌++◌, length, length-append, Option, Some, None, refl, arith, append-nil, get_or, ◌<◌}
+use Rattle.std.specs.Prelude.{filter, filter_map, if◌then◌else◌, codes, option_map, slice_set}
+use Rattle.std.specs.List.{cons_option}
 use Rattle.std.specs.Option.{option_map_or}
 use Rattle.std.proofs.lemmas.Bool.{ne_eqb}
 use Rattle.std.proofs.lemmas.List.Elements.{filter-append}
@@ -16,7 +16,7 @@ use Rattle.mps_reader.specs.declared.columns.ColumnDraft.{ColumnDraft}
 use Rattle.mps_reader.specs.MpsModels.{low_set, high_set, sets_high, sets_integer, is_negative_upper}
 use Rattle.mps_reader.specs.ColumnBounds.{last_setting, with_line, BoundsAgree}
 use Rattle.mps_reader.specs.declared.bounds.Bounds.{Bounds}
-use Rattle.mps_reader.proofs.OpeningLemmas.{filter_map-append, list_any-append, bytes_eq-refl, or-true, or-false}
+use Rattle.mps_reader.proofs.OpeningLemmas.{filter_map-append, list_any-append, bytes_eq-refl}
 
 module _ {X : Type 0} where
   pub last_of-push : (xs : List X) (x : X) → last_of (xs ++ x ∷ []) ≡ Some x

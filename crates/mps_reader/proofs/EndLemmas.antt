@@ -1,6 +1,5 @@
 -- The columns at the end of the text, one after another.
-use Rattle.std.proofs.Common.{◌≡◌, ◌∙◌, ap, sym, List, [], ◌∷◌, ◌++◌, map, Option, Some, None, refl, ℕ}
-use Rattle.std.specs.Prelude.{if◌then◌else◌, Bool, true, false}
+use Rattle.std.proofs.Common.{◌≡◌, ◌∙◌, ap, sym, List, [], ◌∷◌, ◌++◌, map, Some, None, ℕ}
 use Rattle.std.proofs.lemmas.List.{map-append}
 use Rattle.mps_reader.specs.MpsLines.{Line}
 use Rattle.mps_reader.specs.MpsRules.{or_else}

@@ -1,5 +1,5 @@
 -- The fields of a line have bytes.
-use Rattle.std.proofs.Common.{◌≡◌, ◌<◌, ap, sym, ℕ, List, [], ◌∷◌, map, length, Bor, arith}
+use Rattle.std.proofs.Common.{◌≡◌, ◌<◌, ap, ℕ, List, [], ◌∷◌, map, length, Bor, arith}
 use Rattle.std.specs.List.{filter, All, slice_split}
 use Rattle.std.proofs.lemmas.List.Elements.{All-cons}
 use Rattle.num_text.specs.Lines.{fields_of, is_blank, is_nonempty}

@@ -1,5 +1,5 @@
 -- The headers so far, by their words.
-use Rattle.std.proofs.Common.{◌≡◌, ◌∙◌, ap, sym, ℕ, ◌-◌, Bool, true, false, ◌||◌, ◌&&◌, List, [], ◌∷◌, map, length, Option, Some, None, refl, arith, zero, suc}
+use Rattle.std.proofs.Common.{◌≡◌, ap, ◌-◌, Bool, ◌||◌, ◌&&◌, List, [], ◌∷◌, map, length, refl, arith, suc}
 use Rattle.std.specs.List.{list_any, list_all, slice_get}
 use Rattle.std.specs.Option.{option_map}
 use Rattle.num_text.specs.Words.{last_of}

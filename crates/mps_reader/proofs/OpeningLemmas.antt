@@ -1,6 +1,6 @@
 -- How a header, or a data line of OBJSENSE, continues what the lines have said.
-use Rattle.std.proofs.Common.{◌≡◌, ◌∙◌, ap, sym, subst, ℕ, ◌+◌, ◌<◌, Bool, true, false, ◌||◌, ◌&&◌, not, nat_eq, nat_lt, List, [], ◌∷◌, ◌++◌, map, length, Option, Some, None, refl, arith, zero, suc, cond, append-nil, get_or, drop, take, Bor, ◌-◌}
-use Rattle.std.specs.Prelude.{filter, filter_map, bytes_eq, is_none, is_some, if◌then◌else◌, codes, slice_index_or}
+use Rattle.std.proofs.Common.{◌≡◌, ◌∙◌, ap, sym, subst, ℕ, ◌<◌, Bool, true, false, ◌||◌, ◌&&◌, not, nat_eq, nat_lt, List, [], ◌∷◌, ◌++◌, map, length, Option, Some, None, refl, arith, suc, append-nil, get_or, drop, take, Bor, ◌-◌}
+use Rattle.std.specs.Prelude.{filter_map, bytes_eq, is_none, is_some, if◌then◌else◌, codes, slice_index_or}
 use Rattle.std.specs.List.{list_any, list_all, cons_option}
 use Rattle.std.proofs.lemmas.Bool.{ne_eqb, lt-ltb, true≢false, and_parts}
 use Rattle.std.proofs.lemmas.Slice.Eq.{bytes_eq-Decides}

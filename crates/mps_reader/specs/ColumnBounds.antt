@@ -1,9 +1,9 @@
 -- What the lines of BOUNDS say of one column.
-use Rattle.std.specs.Prelude.{◌≡◌, ℕ, ℤ, pos, int_lt, Bool, true, false, not, nat_eq, ◌&&◌, List, [], ◌∷◌, length, filter, filter_map, codes, Option, Some, None, if◌then◌else◌, is_some}
+use Rattle.std.specs.Prelude.{◌≡◌, ℕ, true, false, not, nat_eq, List, length, filter, filter_map, codes, Option, Some, None, if◌then◌else◌}
 use Rattle.std.specs.Option.{option_map_or}
 use Rattle.std.specs.List.{list_any}
 use Rattle.mps_reader.specs.MpsLines.{Line, last_of}
-use Rattle.mps_reader.specs.MpsModels.{Side, low_set, high_set, sets_high, sets_integer, is_negative_upper}
+use Rattle.mps_reader.specs.MpsModels.{low_set, high_set, sets_high, sets_integer, is_negative_upper}
 use Rattle.mps_reader.specs.declared.bounds.Bounds.{Bounds}
 use Rattle.mps_reader.specs.declared.bounds.ValueBound.{ValueBound}
 use Rattle.mps_reader.specs.declared.bounds.ValueBound.TheVariants.{Lower, Upper, Fixed, IntegerLower, IntegerUpper}

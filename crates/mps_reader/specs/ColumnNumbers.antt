@@ -1,5 +1,5 @@
 -- The number that a column gives for one row.
-use Rattle.std.specs.Prelude.{◌≡◌, ℕ, ◌^◌, Bool, true, false, ◌&&◌, nat_le, nat_eq, List, [], ◌∷◌, Option, Some, None, if◌then◌else◌}
+use Rattle.std.specs.Prelude.{ℕ, ◌^◌, Bool, true, false, ◌&&◌, nat_le, nat_eq, List, [], ◌∷◌, Option, Some, None, if◌then◌else◌}
 use Rattle.mps_reader.specs.MpsRules.{first_kind, or_else, number_kind, is_nonzero, is_long}
 use Rattle.mps_reader.specs.MpsLines.{is_one_of}
 use Rattle.mps_reader.specs.declared.MpsKind.{MpsKind}

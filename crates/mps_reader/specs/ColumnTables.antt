@@ -1,5 +1,5 @@
 -- The columns, as far as they have been read.
-use Rattle.std.specs.Prelude.{◌≡◌, ℕ, ◌<◌, List, [], length, slice_index_or}
+use Rattle.std.specs.Prelude.{ℕ, ◌<◌, List, length, slice_index_or}
 use Rattle.mps_reader.specs.MpsLines.{Line}
 use Rattle.mps_reader.specs.MpsModels.{bound_lines}
 use Rattle.mps_reader.specs.ColumnBounds.{BoundsAgree, with_line}

@@ -1,7 +1,7 @@
 -- A column at the end of the text.
-use Rattle.std.specs.Prelude.{◌≡◌, ℕ, ℤ, Bool, List, [], ◌∷◌, map, Option, Some, None}
+use Rattle.std.specs.Prelude.{◌≡◌, List}
 use Rattle.mps_reader.specs.MpsLines.{Line, is_one_of, integer_names}
-use Rattle.mps_reader.specs.MpsModels.{bound_lines, low_of, high_of, is_implied, column_end_kind}
+use Rattle.mps_reader.specs.MpsModels.{bound_lines, low_of, high_of, is_implied}
 use Rattle.mps_reader.specs.ColumnBounds.{BoundsAgree}
 use Rattle.mps_reader.specs.declared.columns.ColumnDraft.{ColumnDraft}
 use Rattle.int_model.specs.declared.build.ColumnPart.{ColumnPart}

@@ -1,7 +1,7 @@
 -- The rows, as far as they have been read.
 use Rattle.std.specs.Prelude.{◌≡◌, ℕ, Bool, true, false, not, nat_eq, List, [], ◌∷◌, length, map, codes, bytes_eq, Option, Some, None, if◌then◌else◌}
 use Rattle.std.specs.Borrow.{Bor}
-use Rattle.mps_reader.specs.MpsLines.{Line, field, data_of, free_rows, kept_rows, is_free, is_one_of}
+use Rattle.mps_reader.specs.MpsLines.{Line, field, data_of, free_rows, kept_rows}
 use Rattle.mps_reader.specs.MpsModels.{sense_of}
 use Rattle.mps_reader.specs.declared.rows.RowRole.{RowRole}
 use Rattle.mps_reader.specs.declared.rows.RowRole.TheVariants.{Objective, Dropped, Kept}

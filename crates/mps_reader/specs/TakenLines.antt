@@ -1,5 +1,5 @@
 -- The line that fields make.
-use Rattle.std.specs.Prelude.{◌≡◌, ℕ, true, false, List, []}
+use Rattle.std.specs.Prelude.{◌≡◌, ℕ, true, false, List}
 use Rattle.mps_reader.specs.MpsLines.{Line, field}
 
 -- a header with these fields

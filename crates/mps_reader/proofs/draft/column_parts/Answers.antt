@@ -1,7 +1,7 @@
 use Rattle.std.proofs.Common.{sym, ◌∙◌}
 use Rattle.std.proofs.lemmas.List.Elements.{All-head, All-rest, All-same}
 use Rattle.mps_reader.specs.EndedColumns.{IsColumnOf}
-use Rattle.mps_reader.proofs.EndLemmas.{good_column, bad_column, part_pushed}
+use Rattle.mps_reader.proofs.EndLemmas.{good_column, part_pushed}
 use Rattle.mps_reader.proofs.draft.column_parts.Goals as goal
 
 pub loop-draft-preserved : goal.loop-draft-preserved

@@ -2,7 +2,7 @@ use Rattle.std.proofs.Common.{◌≡◌, ◌∙◌, sym, arith, false}
 use Rattle.std.specs.Prelude.{bytes_eq}
 use Rattle.std.specs.List.{list_any}
 use Rattle.std.proofs.lemmas.Grind.{common_steps}
-use Rattle.mps_reader.proofs.NamedLemmas.{found_by_text, pushed}
+use Rattle.mps_reader.proofs.NamedLemmas.{found_by_text}
 use Rattle.mps_reader.proofs.named.Named.push.Goals as goal
 
 pub invariant_of-self-2 : goal.invariant_of-self-2
