@@ -1,0 +1,16 @@
+pub mod MpsLines
+pub mod MpsRules
+pub mod MpsModels
+pub mod Faults
+pub mod Sets
+pub mod Sections
+pub mod Openings
+pub mod TakenLines
+pub mod ColumnBounds
+pub mod BoundLines
+pub mod ColumnTables
+pub mod RowTables
+pub mod BegunRows
+pub mod EndedColumns
+pub mod SideNumbers
+pub mod ColumnNumbers

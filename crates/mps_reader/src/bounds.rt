@@ -1,5 +1,15 @@
 // The section BOUNDS: the sides of each column, which later lines set anew.
-ghost use Rattle.std.specs.Prelude.{◌<◌, IfOk, vec_len};
+ghost use Rattle.std.specs.Prelude.{◌≡◌, ◌<◌, ◌∷◌, [], ℕ, List, IfOk, IfErr, IfSome, IfNone, OnOk, slice_set, slice_index_or, ◌++◌, codes, bytes_eq, position, option_map, Option, length, map, ◌^◌, if◌then◌else◌, ◌&&◌, not, true, false, vec_len};
+ghost use Rattle.mps_reader.specs.MpsLines.{Line, field, bound_text, bound_column, is_one_of, integer_names, column_names, sets_of, takes_value, takes_none};
+ghost use Rattle.mps_reader.specs.MpsRules.{bound_fits, bound_kind, number_kind};
+ghost use Rattle.mps_reader.specs.BoundLines.{IsBoundLine, IsSetting, BoundsReady, place_kind};
+ghost use Rattle.mps_reader.specs.TakenLines.{IsDataWith};
+ghost use Rattle.mps_reader.specs.ColumnTables.{with_bound};
+ghost use Rattle.mps_reader.specs.declared.columns.ColumnDraft.{ColumnDraft};
+ghost use Rattle.mps_reader.specs.Sets.{AgreesWith};
+ghost use Rattle.std.specs.List.{cons_option};
+ghost use Rattle.mps_reader.specs.MpsModels.{number_or_zero, bound_lines, column_end_kind, low_of, high_of};
+ghost use Rattle.mps_reader.specs.ColumnBounds.{value_word, plain_word, with_line, BoundsAgree};
 
 use crate::MpsKind;
 use crate::columns::Columns;
@@ -17,8 +27,8 @@ pub(crate) struct Bounds {
     is_integer: bool,
     low: Option<Limit>,
     high: Option<Limit>,
-    /// Whether a line of type UP or UI set the high side last.
-    high_is_upper: bool,
+    /// Whether a line of type UP or UI set the high side last, to a number below 0.
+    has_negative_upper: bool,
 }
 
 // The types of bounds that take a value.
@@ -40,7 +50,10 @@ enum PlainBound {
     Binary,
 }
 
-fn value_bound_named(word: &[u8]) -> Option<ValueBound> {
+fn value_bound_named(word: &[u8]) -> Option<ValueBound>
+    ensures some { IfSome result (λ bound. word.now ≡ value_word bound) }
+    ensures none { IfNone result (takes_value word.now ≡ false) }
+{
     match word {
         b"LO" => Some(ValueBound::Lower),
         b"UP" => Some(ValueBound::Upper),
@@ -51,7 +64,10 @@ fn value_bound_named(word: &[u8]) -> Option<ValueBound> {
     }
 }
 
-fn plain_bound_named(word: &[u8]) -> Option<PlainBound> {
+fn plain_bound_named(word: &[u8]) -> Option<PlainBound>
+    ensures some { IfSome result (λ bound. word.now ≡ plain_word bound) }
+    ensures none { IfNone result (takes_none word.now ≡ false) }
+{
     match word {
         b"FR" => Some(PlainBound::Free),
         b"MI" => Some(PlainBound::MinusInfinity),
@@ -62,31 +78,39 @@ fn plain_bound_named(word: &[u8]) -> Option<PlainBound> {
 }
 
 impl Bounds {
-    pub(crate) fn new() -> Self {
+    pub(crate) fn new() -> Self
+        ensures { BoundsAgree result [] }
+    {
         Bounds {
             is_named: false,
             is_integer: false,
             low: None,
             high: None,
-            high_is_upper: false,
+            has_negative_upper: false,
         }
     }
 
-    fn set_low(&mut self, limit: Limit) {
+    fn set_low(&mut self, limit: Limit)
+        ensures { self.new ≡ record self.old { is_named = true; low = Some limit } }
+    {
         self.is_named = true;
         self.low = Some(limit);
     }
 
-    fn set_high(&mut self, limit: Limit, is_upper: bool) {
+    fn set_high(&mut self, limit: Limit, is_negative_upper: bool)
+        ensures { self.new ≡ record self.old { is_named = true; high = Some limit; has_negative_upper = is_negative_upper } }
+    {
         self.is_named = true;
         self.high = Some(limit);
-        self.high_is_upper = is_upper;
+        self.has_negative_upper = is_negative_upper;
     }
 
-    fn set_value(&mut self, bound: ValueBound, value: i64) {
+    fn set_value(&mut self, bound: ValueBound, value: i64)
+        ensures { (l : Line) → field 0 l ≡ value_word bound → number_or_zero (bound_text l) ≡ value → self.new ≡ with_line self.old l }
+    {
         match bound {
             ValueBound::Lower => self.set_low(Some(value)),
-            ValueBound::Upper => self.set_high(Some(value), true),
+            ValueBound::Upper => self.set_high(Some(value), value < 0),
             ValueBound::Fixed => {
                 self.set_low(Some(value));
                 self.set_high(Some(value), false);
@@ -97,12 +121,14 @@ impl Bounds {
             }
             ValueBound::IntegerUpper => {
                 self.is_integer = true;
-                self.set_high(Some(value), true);
+                self.set_high(Some(value), value < 0);
             }
         }
     }
 
-    fn set_plain(&mut self, bound: PlainBound) {
+    fn set_plain(&mut self, bound: PlainBound)
+        ensures { (l : Line) → field 0 l ≡ plain_word bound → self.new ≡ with_line self.old l }
+    {
         match bound {
             PlainBound::Free => {
                 self.set_low(None);
@@ -118,17 +144,16 @@ impl Bounds {
         }
     }
 
-    fn has_negative_upper(&self) -> bool {
-        self.high_is_upper && matches!(self.high, Some(Some(value)) if value < 0)
-    }
-
     /// The two sides of a column at the end of the text, where its bounds are good. `is_marked` tells whether it
     /// began in an integer part.
-    pub(crate) fn sides(&self, is_marked: bool) -> Result<(Limit, Limit), MpsKind> {
+    pub(crate) fn sides(&self, is_marked: bool) -> Result<(Limit, Limit), MpsKind>
+        ensures ok { IfOk result (λ sides. (ls : List Line) (column : List ℕ) → BoundsAgree self.now (bound_lines ls column) → is_marked ≡ is_one_of (integer_names ls) column → (column_end_kind ls column ≡ None) × (sides.0 ≡ low_of ls column) × (sides.1 ≡ high_of ls column)) }
+        ensures err { IfErr result (λ kind. (ls : List Line) (column : List ℕ) → BoundsAgree self.now (bound_lines ls column) → is_marked ≡ is_one_of (integer_names ls) column → column_end_kind ls column ≡ Some kind) }
+    {
         if !is_marked && !self.is_integer {
             return Err(MpsKind::Continuous);
         }
-        if self.low.is_none() && self.has_negative_upper() {
+        if self.low.is_none() && self.has_negative_upper {
             return Err(MpsKind::NegativeUpper);
         }
         let low = self.low.unwrap_or(Some(0));
@@ -144,9 +169,118 @@ impl Bounds {
     }
 
     /// Whether no line names the column, which began in an integer part: its bounds are then 0 and 1.
-    pub(crate) fn is_implied(&self, is_marked: bool) -> bool {
+    pub(crate) fn is_implied(&self, is_marked: bool) -> bool
+        ensures { result ≡ (is_marked && not self.now.is_named) }
+    {
         is_marked && !self.is_named
     }
+}
+
+// What a line sets its column's bounds to.
+#[derive(Clone, Copy, Debug, PartialEq, Eq)]
+enum Setting<'a> {
+    Value(ValueBound, &'a [u8]),
+    Plain(PlainBound),
+}
+
+// A line of the section.
+#[derive(Clone, Copy, Debug, PartialEq, Eq)]
+struct BoundLine<'a> {
+    setting: Setting<'a>,
+    set: Option<&'a [u8]>,
+    column: &'a [u8],
+}
+
+// The line that fields make behind a type that takes a value.
+fn value_line<'a>(bound: ValueBound, fields: &[&'a [u8]]) -> Result<BoundLine<'a>, MpsKind>
+    ensures ok { IfOk result (λ b. (l : Line) → l.fields ≡ map (λ f. f.now) fields.now → field 0 l ≡ value_word bound → IsBoundLine b l) }
+    ensures err { IfErr result (λ kind. (kind ≡ MpsKind.Fields) × ((l : Line) → l.fields ≡ map (λ f. f.now) fields.now → field 0 l ≡ value_word bound → bound_fits l ≡ false)) }
+{
+    match fields {
+        [_, column, number] => Ok(BoundLine {
+            setting: Setting::Value(bound, *number),
+            set: None,
+            column: *column,
+        }),
+        [_, set, column, number] => Ok(BoundLine {
+            setting: Setting::Value(bound, *number),
+            set: Some(*set),
+            column: *column,
+        }),
+        _ => Err(MpsKind::Fields),
+    }
+}
+
+// The line that fields make behind a type that takes none.
+fn plain_line<'a>(bound: PlainBound, fields: &[&'a [u8]]) -> Result<BoundLine<'a>, MpsKind>
+    ensures ok { IfOk result (λ b. (l : Line) → l.fields ≡ map (λ f. f.now) fields.now → field 0 l ≡ plain_word bound → IsBoundLine b l) }
+    ensures err { IfErr result (λ kind. (kind ≡ MpsKind.Fields) × ((l : Line) → l.fields ≡ map (λ f. f.now) fields.now → field 0 l ≡ plain_word bound → bound_fits l ≡ false)) }
+{
+    match fields {
+        [_, column] => Ok(BoundLine {
+            setting: Setting::Plain(bound),
+            set: None,
+            column: *column,
+        }),
+        [_, set, column] | [_, set, column, _] => Ok(BoundLine {
+            setting: Setting::Plain(bound),
+            set: Some(*set),
+            column: *column,
+        }),
+        _ => Err(MpsKind::Fields),
+    }
+}
+
+// The line that fields make.
+fn bound_line<'a>(fields: &[&'a [u8]]) -> Result<BoundLine<'a>, MpsKind>
+    requires { 0 < length fields.now }
+    ensures ok { IfOk result (λ b. (l : Line) → l.fields ≡ map (λ f. f.now) fields.now → IsBoundLine b l) }
+    ensures err { IfErr result (λ kind. (kind ≡ MpsKind.Fields) × ((l : Line) → l.fields ≡ map (λ f. f.now) fields.now → bound_fits l ≡ false)) }
+{
+    let [word, ..] = fields else {
+        return Err(MpsKind::Fields);
+    };
+    if let Some(bound) = value_bound_named(*word) {
+        return value_line(bound, fields);
+    }
+    match plain_bound_named(*word) {
+        Some(bound) => plain_line(bound, fields),
+        None => Err(MpsKind::Fields),
+    }
+}
+
+impl Bounds {
+    // Takes what a line sets.
+    fn take(&mut self, setting: Setting) -> Result<(), MpsKind>
+        ensures ok { OnOk result ((l : Line) → IsSetting setting.entry l → ((if takes_value (field 0 l) then number_kind (10 ^ 6) (bound_text l) else None) ≡ None) × (self.new ≡ with_line self.old l)) }
+        ensures err { IfErr result (λ kind. (self.new ≡ self.old) × ((l : Line) → IsSetting setting.entry l → (if takes_value (field 0 l) then number_kind (10 ^ 6) (bound_text l) else None) ≡ Some kind)) }
+    {
+        match setting {
+            Setting::Value(bound, number) => {
+                let value = number_within(number, MAX_BOUND)?;
+                self.set_value(bound, value);
+            }
+            Setting::Plain(bound) => self.set_plain(bound),
+        }
+        Ok(())
+    }
+}
+
+// The number of the column that a line names, behind the set that it may name.
+fn place_of<'a>(
+    set: &mut SetName<'a>,
+    columns: &Columns<'a>,
+    line: BoundLine<'a>,
+) -> Result<usize, MpsKind>
+    ensures within { IfOk result (λ k. k < vec_len columns.now.table.items) }
+    ensures ok { IfOk result (λ k. (earlier : List Line) (l : Line) → IsBoundLine line.entry l → BoundsReady set.old.first columns.now.table.names.keys earlier → (place_kind earlier l ≡ None) × (position (bytes_eq (bound_column l)) (column_names earlier) ≡ Some k) × AgreesWith set.new.first (sets_of (codes "BOUNDS") earlier ++ cons_option (option_map (λ n. n.now) line.entry.set) [])) }
+    ensures err { IfErr result (λ kind. (earlier : List Line) (l : Line) → IsBoundLine line.entry l → BoundsReady set.old.first columns.now.table.names.keys earlier → place_kind earlier l ≡ Some kind) }
+{
+    set.note(line.set)?;
+    columns
+        .table
+        .find(line.column)
+        .ok_or(MpsKind::UnknownColumn)
 }
 
 /// Takes a line of the section.
@@ -154,45 +288,17 @@ pub(crate) fn take_bound<'a>(
     set: &mut SetName<'a>,
     columns: &mut Columns<'a>,
     fields: &[&'a [u8]],
-) -> Result<(), MpsKind> {
-    let [word, rest @ ..] = fields else {
-        return Err(MpsKind::Fields);
-    };
-    if let Some(bound) = value_bound_named(*word) {
-        let (name, column, number) = match rest {
-            [column, number] => (None, *column, *number),
-            [name, column, number] => (Some(*name), *column, *number),
-            _ => return Err(MpsKind::Fields),
-        };
-        let index = column_of(set, columns, name, column)?;
-        let value = number_within(number, MAX_BOUND)?;
-        let table = &mut columns.table;
-        table.items[index].bounds.set_value(bound, value);
-        return Ok(());
-    }
-    let bound = plain_bound_named(*word).ok_or(MpsKind::Fields)?;
-    let (name, column) = match rest {
-        [column] => (None, *column),
-        [name, column] | [name, column, _] => (Some(*name), *column),
-        _ => return Err(MpsKind::Fields),
-    };
-    let index = column_of(set, columns, name, column)?;
-    let table = &mut columns.table;
-    table.items[index].bounds.set_plain(bound);
-    Ok(())
-}
-
-// The number of the column that a line names, behind the set that it may name.
-fn column_of<'a>(
-    set: &mut SetName<'a>,
-    columns: &Columns<'a>,
-    name: Option<&'a [u8]>,
-    column: &[u8],
-) -> Result<usize, MpsKind>
-    ensures { IfOk result (λ k. k < vec_len columns.now.table.items) }
+) -> Result<(), MpsKind>
+    requires { 0 < length fields.now }
+    ensures names { columns.new.table.names ≡ columns.old.table.names }
+    ensures kind { OnOk result ((earlier : List Line) (l : Line) → IsDataWith (codes "BOUNDS") l (map (λ f. f.now) fields.now) → BoundsReady set.old.first columns.old.table.names.keys earlier → bound_kind earlier l ≡ None) }
+    ensures sets { OnOk result ((earlier : List Line) (l : Line) → IsDataWith (codes "BOUNDS") l (map (λ f. f.now) fields.now) → BoundsReady set.old.first columns.old.table.names.keys earlier → AgreesWith set.new.first (sets_of (codes "BOUNDS") (earlier ++ l ∷ []))) }
+    ensures bounds { OnOk result ((earlier : List Line) (l : Line) (k : ℕ) (d : ColumnDraft) → IsDataWith (codes "BOUNDS") l (map (λ f. f.now) fields.now) → BoundsReady set.old.first columns.old.table.names.keys earlier → position (bytes_eq (bound_column l)) (column_names earlier) ≡ Some k → columns.new.table.items.items ≡ slice_set columns.old.table.items.items k (with_bound (slice_index_or columns.old.table.items.items k d) l)) }
+    ensures err { IfErr result (λ kind. (earlier : List Line) (l : Line) → IsDataWith (codes "BOUNDS") l (map (λ f. f.now) fields.now) → BoundsReady set.old.first columns.old.table.names.keys earlier → bound_kind earlier l ≡ Some kind) }
 {
-    if let Some(name) = name {
-        set.accept(name)?;
-    }
-    columns.table.find(column).ok_or(MpsKind::UnknownColumn)
+    let line = bound_line(fields)?;
+    let index = place_of(set, columns, line)?;
+    let table = &mut columns.table;
+    table.items[index].bounds.take(line.setting)?;
+    Ok(())
 }

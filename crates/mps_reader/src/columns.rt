@@ -1,11 +1,16 @@
 // The section COLUMNS: markers of integer parts, and each column's numbers for its rows.
-ghost use Rattle.std.specs.Prelude.{◌≡◌, ◌≤◌, ◌<◌, IfOk, vec_len};
+ghost use Rattle.std.specs.Prelude.{◌≡◌, ◌≤◌, ◌<◌, ◌+◌, ◌∷◌, ◌++◌, ◌⊎◌, [], IfOk, IfErr, IfSome, OnOk, pos, ◌≢◌, if◌then◌else◌, All, length, map, option_map, codes, bytes_eq, true, false, vec_len};
+ghost use Rattle.mps_reader.specs.MpsLines.{Line, field, is_one_of};
+ghost use Rattle.mps_reader.specs.MpsRules.{marker_kind};
+ghost use Rattle.mps_reader.specs.Faults.{IsFault};
+ghost use Rattle.mps_reader.specs.ColumnNumbers.{new_column_kind, number_for_kind, makes_term, is_unread, is_column};
+ghost use Rattle.mps_reader.specs.MpsModels.{number_or_zero};
 
 use crate::MpsKind;
 use crate::bounds::Bounds;
 use crate::fault::{Fault, name_of, number_within};
 use crate::named::Named;
-use crate::rows::{RowRole, Rows};
+use crate::rows::{RowDraft, RowRole, Rows};
 use int_model::Name;
 use std::alloc::Global;
 
@@ -35,6 +40,20 @@ const MAX_ENTRIES: usize = 100_000;
 
 const MAX_ENTRY: u64 = 1_000_000_000;
 
+// Whether a marker's word begins an integer part, or ends one.
+fn begins_part(word: &[u8]) -> Result<bool, MpsKind>
+    ensures ok { IfOk result (λ begins. (is_one_of (codes "'INTORG'" ∷ codes "'INTEND'" ∷ []) word.now ≡ true) × (begins ≡ bytes_eq word.now (codes "'INTORG'"))) }
+    ensures err { IfErr result (λ kind. (kind ≡ MpsKind.Fields) × (is_one_of (codes "'INTORG'" ∷ codes "'INTEND'" ∷ []) word.now ≡ false)) }
+{
+    if word == b"'INTORG'".as_slice() {
+        Ok(true)
+    } else if word == b"'INTEND'".as_slice() {
+        Ok(false)
+    } else {
+        Err(MpsKind::Fields)
+    }
+}
+
 impl<'a> Columns<'a> {
     pub(crate) fn new(alloc: Global) -> Self {
         Columns {
@@ -61,7 +80,9 @@ impl<'a> Columns<'a> {
         alloc: Global,
         rows: &mut Rows<'a>,
         fields: &[&'a [u8]],
-    ) -> Result<(), Fault> {
+    ) -> Result<(), Fault>
+        requires { All (λ f. 0 < length f.now) fields.now }
+    {
         match fields {
             [_, b"'MARKER'", ..] => Ok(self.take_marker(fields)?),
             [column, row, number] => {
@@ -78,19 +99,29 @@ impl<'a> Columns<'a> {
     }
 
     // A marker begins or ends an integer part, and ends the column before it.
-    fn take_marker(&mut self, fields: &[&'a [u8]]) -> Result<(), MpsKind> {
-        match fields {
-            [_, _, b"'INTORG'"] => self.in_integer_part = true,
-            [_, _, b"'INTEND'"] => self.in_integer_part = false,
-            _ => return Err(MpsKind::Fields),
-        }
+    fn take_marker(&mut self, fields: &[&'a [u8]]) -> Result<(), MpsKind>
+        ensures table { self.new.table ≡ self.old.table }
+        ensures current { OnOk result (self.new.current ≡ None) }
+        ensures ok { OnOk result ((l : Line) → l.fields ≡ map (λ f. f.now) fields.now → (marker_kind l ≡ None) × (self.new.in_integer_part ≡ bytes_eq (field 2 l) (codes "'INTORG'"))) }
+        ensures err { IfErr result (λ kind. (l : Line) → l.fields ≡ map (λ f. f.now) fields.now → marker_kind l ≡ Some kind) }
+    {
+        let [_, _, word] = fields else {
+            return Err(MpsKind::Fields);
+        };
+        self.in_integer_part = begins_part(*word)?;
         self.current = None;
         Ok(())
     }
 
     // The number of the column that a line names: the current one, or a new one.
     fn column_named(&mut self, alloc: Global, field: &'a [u8]) -> Result<u32, Fault>
-        ensures { IfOk result (λ k. k < vec_len self.new.table.items) }
+        requires { 0 < length field.now }
+        ensures within { IfOk result (λ k. k < vec_len self.new.table.items) }
+        ensures same { self.new.in_integer_part ≡ self.old.in_integer_part }
+        ensures last { IfOk result (λ k. k + 1 ≡ vec_len self.new.table.items) }
+        ensures current { OnOk result (option_map (λ c. c.now) self.new.current ≡ Some field.entry.now) }
+        ensures names { OnOk result ((map (λ k. k.now) self.new.table.names.keys ≡ map (λ k. k.now) self.old.table.names.keys) ⊎ (map (λ k. k.now) self.new.table.names.keys ≡ map (λ k. k.now) self.old.table.names.keys ++ field.entry.now ∷ [])) }
+        ensures err { IfErr result (λ fault. IsFault fault (new_column_kind (map (λ k. k.now) self.old.table.names.keys) (vec_len self.old.table.items) field.entry.now)) }
     {
         let count = self.table.items.len();
         if self.current == Some(field) && count > 0 {
@@ -128,26 +159,50 @@ impl<'a> Columns<'a> {
         let index = rows.table.find(row).ok_or(MpsKind::UnknownRow)?;
         let table = &mut rows.table;
         let draft = &mut table.items[index];
-        if draft.role == RowRole::Dropped {
+        let Some(value) = value_for(draft, column, self.entries, number)? else {
             return Ok(());
-        }
-        if draft.last_column == Some(column) {
-            return Err(Fault::Refused(MpsKind::Duplicate));
-        }
-        let value = number_within(number, MAX_ENTRY)?;
+        };
         draft.last_column = Some(column);
-        if draft.role == RowRole::Objective {
-            let columns = &mut self.table;
-            columns.items[column as usize].cost = value;
-            return Ok(());
-        }
-        if value != 0 {
-            if self.entries >= MAX_ENTRIES {
-                return Err(Fault::Refused(MpsKind::TooMany));
+        match draft.role {
+            RowRole::Dropped => {}
+            RowRole::Objective => {
+                let columns = &mut self.table;
+                columns.items[column as usize].cost = value;
             }
-            self.entries += 1;
-            draft.terms.push((column, value))?;
+            RowRole::Kept(_) => {
+                if value != 0 {
+                    self.entries += 1;
+                    draft.terms.push((column, value))?;
+                }
+            }
         }
         Ok(())
     }
+}
+
+// The number that a column gives for a row, None where the row's numbers are not read. `entries` counts the terms
+// of the rows so far.
+fn value_for(
+    draft: &RowDraft,
+    column: u32,
+    entries: usize,
+    number: &[u8],
+) -> Result<Option<i64>, MpsKind>
+    ensures ok { IfOk result (λ value. (number_for_kind draft.now.role (is_column draft.now.last_column column) entries number.now ≡ None) × (value ≡ (if is_unread draft.now.role then None else Some (number_or_zero number.now)))) }
+    ensures few { IfOk result (λ value. IfSome value (λ z. z ≢ pos 0 → makes_term draft.now.role ≡ true → entries < 100000)) }
+    ensures err { IfErr result (λ kind. number_for_kind draft.now.role (is_column draft.now.last_column column) entries number.now ≡ Some kind) }
+{
+    if matches!(draft.role, RowRole::Dropped) {
+        return Ok(None);
+    }
+    if draft.last_column == Some(column) {
+        return Err(MpsKind::Duplicate);
+    }
+    let value = number_within(number, MAX_ENTRY)?;
+    if matches!(draft.role, RowRole::Kept(_)) {
+        if value != 0 && entries >= MAX_ENTRIES {
+            return Err(MpsKind::TooMany);
+        }
+    }
+    Ok(Some(value))
 }

@@ -1,4 +1,10 @@
 // The model of a text, as far as its lines have been read.
+ghost use Rattle.std.specs.Prelude.{◌≡◌, ◌<◌, All, List, length, map, IfOk, IfErr};
+ghost use Rattle.mps_reader.specs.MpsLines.{Line};
+ghost use Rattle.mps_reader.specs.MpsModels.{column_end_kind, end_kind};
+ghost use Rattle.mps_reader.specs.Faults.{IsFault};
+ghost use Rattle.mps_reader.specs.EndedColumns.{IsColumnOf, part_of};
+
 use crate::MpsKind;
 use crate::bounds::take_bound;
 use crate::columns::{ColumnDraft, Columns};
@@ -6,7 +12,7 @@ use crate::fault::{Fault, SetName};
 use crate::header::{Headers, Section};
 use crate::rows::Rows;
 use crate::sides::Side;
-use int_model::{ColumnPart, Direction, Model, ModelError, Parts};
+use int_model::{ColumnPart, Model, ModelError, Parts};
 use std::alloc::Global;
 
 /// Whether a line was the end of the text.
@@ -19,7 +25,6 @@ pub(crate) enum Progress {
 #[derive(Drop)]
 pub(crate) struct Draft<'a> {
     headers: Headers,
-    direction: Option<Direction>,
     rows: Rows<'a>,
     columns: Columns<'a>,
     rhs_set: SetName<'a>,
@@ -27,19 +32,10 @@ pub(crate) struct Draft<'a> {
     bound_set: SetName<'a>,
 }
 
-fn direction_named(word: &[u8]) -> Result<Direction, MpsKind> {
-    match word {
-        b"MAX" | b"MAXIMIZE" => Ok(Direction::Max),
-        b"MIN" | b"MINIMIZE" => Ok(Direction::Min),
-        _ => Err(MpsKind::Fields),
-    }
-}
-
 impl<'a> Draft<'a> {
     pub(crate) fn new(alloc: Global) -> Self {
         Draft {
-            headers: Headers::new(),
-            direction: None,
+            headers: Headers::new(alloc),
             rows: Rows::new(alloc),
             columns: Columns::new(alloc),
             rhs_set: SetName::new(),
@@ -54,38 +50,34 @@ impl<'a> Draft<'a> {
         alloc: Global,
         is_header: bool,
         fields: &[&'a [u8]],
-    ) -> Result<Progress, Fault> {
+    ) -> Result<Progress, Fault>
+        requires { All (λ f. 0 < length f.now) fields.now }
+    {
         if fields.is_empty() {
             return Ok(Progress::More);
         }
         if is_header {
-            return Ok(self.take_header(fields)?);
+            return self.take_header(fields);
         }
         self.take_data(alloc, fields)?;
         Ok(Progress::More)
     }
 
-    fn take_header(&mut self, fields: &[&'a [u8]]) -> Result<Progress, MpsKind> {
-        let [word, rest @ ..] = fields else {
-            return Ok(Progress::More);
-        };
-        // OBJSENSE has to give its value before the next header.
-        if self.headers.last == Some(Section::ObjSense) && self.direction.is_none() {
-            return Err(MpsKind::Section);
-        }
-        match (self.headers.enter(*word)?, rest) {
-            (Section::ObjSense, [value, ..]) => {
-                self.direction = Some(direction_named(*value)?);
-                Ok(Progress::More)
-            }
-            (Section::EndData, _) => Ok(Progress::Ended),
+    fn take_header(&mut self, fields: &[&'a [u8]]) -> Result<Progress, Fault>
+        requires { 0 < length fields.now }
+    {
+        match self.headers.enter(fields)? {
+            Section::EndData => Ok(Progress::Ended),
             _ => Ok(Progress::More),
         }
     }
 
-    fn take_data(&mut self, alloc: Global, fields: &[&'a [u8]]) -> Result<(), Fault> {
-        match self.headers.last {
-            Some(Section::ObjSense) => Ok(self.take_direction(fields)?),
+    fn take_data(&mut self, alloc: Global, fields: &[&'a [u8]]) -> Result<(), Fault>
+        requires some { 0 < length fields.now }
+        requires nonempty { All (λ f. 0 < length f.now) fields.now }
+    {
+        match self.headers.last() {
+            Some(Section::ObjSense) => Ok(self.headers.take_direction(fields)?),
             Some(Section::Rows) => self.rows.take_line(alloc, fields),
             Some(Section::Columns) => self.columns.take_line(alloc, &mut self.rows, fields),
             Some(Section::Rhs) => {
@@ -103,48 +95,43 @@ impl<'a> Draft<'a> {
         }
     }
 
-    fn take_direction(&mut self, fields: &[&'a [u8]]) -> Result<(), MpsKind> {
-        match (self.direction, fields) {
-            (None, [value, ..]) => {
-                self.direction = Some(direction_named(*value)?);
-                Ok(())
-            }
-            _ => Err(MpsKind::Section),
-        }
-    }
-
     /// The model, once the text has ended.
     pub(crate) fn into_model(self, alloc: Global) -> Result<Model, Fault> {
         let Draft {
-            headers: _,
-            direction,
+            headers,
             rows,
             columns,
             rhs_set: _,
             range_set: _,
             bound_set: _,
         } = self;
-        let columns = column_parts(alloc, columns)?;
+        let columns = column_parts(alloc, columns.into_items())?;
         let (constant, rows) = rows.into_rows(alloc)?;
         let parts = Parts {
             columns,
             rows,
             constant,
-            direction: direction.unwrap_or(Direction::Min),
+            direction: headers.direction(),
         };
         Model::build(alloc, parts).map_err(fault_of)
     }
 }
 
-fn column_parts(alloc: Global, columns: Columns) -> Result<Vec<ColumnPart>, Fault> {
+fn column_parts(alloc: Global, columns: Vec<ColumnDraft>) -> Result<Vec<ColumnPart>, Fault>
+    ensures ok { IfOk result (λ parts. (ls : List Line) → All (IsColumnOf ls) columns.items → (end_kind ls (map (λ c. c.name) columns.items) ≡ None) × (parts.items ≡ map (part_of ls) columns.items)) }
+    ensures err { IfErr result (λ fault. (ls : List Line) → All (IsColumnOf ls) columns.items → IsFault fault (end_kind ls (map (λ c. c.name) columns.items))) }
+{
     let mut parts = Vec::new(alloc);
-    for draft in columns.into_items() {
+    for draft in columns {
         parts.push(column_part(draft)?)?;
     }
     Ok(parts)
 }
 
-fn column_part(draft: ColumnDraft) -> Result<ColumnPart, MpsKind> {
+fn column_part(draft: ColumnDraft) -> Result<ColumnPart, MpsKind>
+    ensures ok { IfOk result (λ part. (ls : List Line) → IsColumnOf ls draft → (column_end_kind ls draft.name ≡ None) × (part ≡ part_of ls draft)) }
+    ensures err { IfErr result (λ kind. (ls : List Line) → IsColumnOf ls draft → column_end_kind ls draft.name ≡ Some kind) }
+{
     let (low, high) = draft.bounds.sides(draft.is_marked)?;
     Ok(ColumnPart {
         name: draft.name,

@@ -6,7 +6,8 @@
 //! model or is the first one that offends, and then its first offence is told.
 #![tactic(auto)]
 
-ghost use Rattle.std.specs.Prelude.{◌≤◌, ◌+◌, length};
+ghost use Rattle.std.specs.Prelude.{◌≡◌, ◌≤◌, ◌+◌, length};
+ghost use Rattle.mps_reader.specs.declared.MpsError.TheVariants as refused;
 
 mod bounds;
 mod columns;
@@ -20,7 +21,7 @@ mod sides;
 use crate::draft::{Draft, Progress};
 use int_model::Model;
 use num_text::{Lines, is_blank, read_fields};
-use std::alloc::Global;
+use std::alloc::{AllocError, Global};
 use thiserror::Error;
 
 /// Why a line of a model text is refused.
@@ -69,6 +70,14 @@ pub enum MpsError {
     Memory,
 }
 
+impl From<AllocError> for MpsError {
+    ghost from_gives = { λ _ error. error ≡ refused.Memory };
+
+    fn from(_: AllocError) -> Self {
+        MpsError::Memory
+    }
+}
+
 /// The greatest length of a text in bytes.
 pub const MAX_BYTES: usize = 16_777_216;
 
@@ -87,7 +96,7 @@ pub fn read_model(alloc: Global, bytes: &[u8]) -> Result<Model, MpsError>
         if *first == b'*' {
             continue;
         }
-        read_fields(line, &mut fields).map_err(|_| MpsError::Memory)?;
+        read_fields(line, &mut fields)?;
         match draft.take_line(alloc, !is_blank(*first), &fields) {
             Ok(Progress::More) => {}
             Ok(Progress::Ended) => return draft.into_model(alloc).map_err(|fault| fault.at(number)),

@@ -1,5 +1,5 @@
 // A table of items in the order in which their names came, found by name.
-ghost use Rattle.std.specs.Prelude.{◌≡◌, ◌<◌, ◌+◌, IfSome, OnOk, OnErr, vec_len, false, is_some, bytes_eq};
+ghost use Rattle.std.specs.Prelude.{◌≡◌, ◌<◌, ◌+◌, ◌∷◌, ◌++◌, [], map, position, IfSome, OnOk, OnErr, vec_len, false, is_some, bytes_eq};
 ghost use Rattle.std.specs.List.{list_any};
 ghost use Rattle.indexmap.specs.IndexSet.{index_set_len};
 
@@ -16,7 +16,8 @@ pub(crate) struct Named<'a, T> {
 
 impl<'a, T: Drop> Named<'a, T> {
     pub(crate) fn new(alloc: Global) -> Self
-        ensures { vec_len result.items ≡ 0 }
+        ensures items { result.items.items ≡ [] }
+        ensures names { result.names.keys ≡ [] }
     {
         Named {
             names: IndexSet::new(alloc),
@@ -34,7 +35,8 @@ impl<'a, T: Drop> Named<'a, T> {
 
     /// The number of the item with this name.
     pub(crate) fn find(&self, name: &[u8]) -> Option<usize>
-        ensures found { is_some result ≡ list_any (λ k. bytes_eq name.now k.now) self.now.names.keys }
+        ensures place { result ≡ position (bytes_eq name.now) (map (λ k. k.now) self.now.names.keys) }
+        ensures found { is_some result ≡ list_any (bytes_eq name.now) (map (λ k. k.now) self.now.names.keys) }
         ensures within { IfSome result (λ k. k < vec_len self.now.items) }
     {
         self.names.get_index_of(name)
@@ -42,7 +44,9 @@ impl<'a, T: Drop> Named<'a, T> {
 
     /// Adds an item with a name that no other has.
     pub(crate) fn push(&mut self, name: &'a [u8], item: T) -> Result<(), AllocError>
-        requires { list_any (λ k. bytes_eq name.now k.now) self.old.names.keys ≡ false }
+        requires { list_any (bytes_eq name.now) (map (λ k. k.now) self.old.names.keys) ≡ false }
+        ensures names { OnOk result (map (λ k. k.now) self.new.names.keys ≡ map (λ k. k.now) self.old.names.keys ++ name.entry.now ∷ []) }
+        ensures items { OnOk result (self.new.items.items ≡ self.old.items.items ++ item ∷ []) }
         ensures ok { OnOk result (vec_len self.new.items ≡ vec_len self.old.items + 1) }
         ensures err { OnErr result (vec_len self.new.items ≡ vec_len self.old.items) }
     {

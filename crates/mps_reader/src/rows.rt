@@ -1,5 +1,10 @@
 // The section ROWS: the objective, and the rows with a sense.
-ghost use Rattle.std.specs.Prelude.{◌≡◌, ◌≤◌, unsigned_abs};
+ghost use Rattle.std.specs.Prelude.{◌≡◌, ◌<◌, ◌≤◌, ◌+◌, ◌∷◌, ◌++◌, ◌&&◌, ◌||◌, [], List, All, length, unsigned_abs, IfOk, IfErr, OnOk, true, false, is_some, is_none, nat_le, neg_ℤ, pos, unwrap_or, map, codes, if◌then◌else◌};
+ghost use Rattle.mps_reader.specs.MpsLines.{Line, is_one_of};
+ghost use Rattle.mps_reader.specs.MpsRules.{row_kind};
+ghost use Rattle.mps_reader.specs.Faults.{IsFault};
+ghost use Rattle.mps_reader.specs.TakenLines.{IsDataWith};
+ghost use Rattle.mps_reader.specs.RowTables.{sense_words, sense_after, role_with, RowsReady};
 ghost use Rattle.std.specs.Option.{ForSome};
 
 use crate::MpsKind;
@@ -41,7 +46,10 @@ pub(crate) struct Rows<'a> {
 const MAX_ROWS: usize = 1_000;
 
 // The sense that a word names; None is a free row.
-fn sense_named(word: &[u8]) -> Result<Option<RowSense>, MpsKind> {
+fn sense_named(word: &[u8]) -> Result<Option<RowSense>, MpsKind>
+    ensures ok { IfOk result (λ sense. (is_one_of sense_words word.now ≡ true) × (sense ≡ sense_after word.now)) }
+    ensures err { IfErr result (λ kind. (kind ≡ MpsKind.Fields) × (is_one_of sense_words word.now ≡ false)) }
+{
     match word {
         b"N" => Ok(None),
         b"L" => Ok(Some(RowSense::L)),
@@ -54,6 +62,7 @@ fn sense_named(word: &[u8]) -> Result<Option<RowSense>, MpsKind> {
 // The objective's constant is its right-hand side with the other sign.
 fn constant_of(rhs: Option<i64>) -> i64
     requires { ForSome rhs (λ z. unsigned_abs z ≤ 1000000000000000000) }
+    ensures { result ≡ neg_ℤ (unwrap_or rhs (pos 0)) }
 {
     match rhs {
         Some(value) => -value,
@@ -70,7 +79,12 @@ impl<'a> Rows<'a> {
         }
     }
 
-    pub(crate) fn take_line(&mut self, alloc: Global, fields: &[&'a [u8]]) -> Result<(), Fault> {
+    pub(crate) fn take_line(&mut self, alloc: Global, fields: &[&'a [u8]]) -> Result<(), Fault>
+        requires { All (λ f. 0 < length f.now) fields.now }
+        ensures kind { OnOk result ((earlier : List Line) (l : Line) → IsDataWith (codes "ROWS") l (map (λ f. f.now) fields.now) → RowsReady self.old.table.names.keys self.old.kept self.old.has_objective earlier → row_kind earlier l ≡ None) }
+        ensures ready { OnOk result ((earlier : List Line) (l : Line) → IsDataWith (codes "ROWS") l (map (λ f. f.now) fields.now) → RowsReady self.old.table.names.keys self.old.kept self.old.has_objective earlier → RowsReady self.new.table.names.keys self.new.kept self.new.has_objective (earlier ++ l ∷ [])) }
+        ensures err { IfErr result (λ fault. (earlier : List Line) (l : Line) → IsDataWith (codes "ROWS") l (map (λ f. f.now) fields.now) → RowsReady self.old.table.names.keys self.old.kept self.old.has_objective earlier → IsFault fault (row_kind earlier l)) }
+    {
         let [word, field] = fields else {
             return Err(Fault::Refused(MpsKind::Fields));
         };
@@ -94,7 +108,12 @@ impl<'a> Rows<'a> {
 
     // The role of the next row with this sense.
     fn next_role(&mut self, sense: Option<RowSense>) -> Result<RowRole, MpsKind>
-        ensures { self.new.table ≡ self.old.table }
+        ensures table { self.new.table ≡ self.old.table }
+        ensures kept { IfOk result (λ role. self.new.kept ≡ (if is_some sense then self.old.kept + 1 else self.old.kept)) }
+        ensures objective { IfOk result (λ role. self.new.has_objective ≡ (self.old.has_objective || is_none sense)) }
+        ensures few { IfOk result (λ role. (is_some sense && nat_le 1000 self.old.kept) ≡ false) }
+        ensures role { IfOk result (λ role. role ≡ role_with self.old.has_objective sense) }
+        ensures err { IfErr result (λ kind. (kind ≡ MpsKind.TooMany) × ((is_some sense && nat_le 1000 self.old.kept) ≡ true)) }
     {
         match sense {
             None if self.has_objective => Ok(RowRole::Dropped),

@@ -1,5 +1,8 @@
 // The sections RHS and RANGES: numbers for rows, perhaps behind the name of a set.
-ghost use Rattle.std.specs.Prelude.{◌≤◌, IfOk, unsigned_abs};
+ghost use Rattle.std.specs.Prelude.{◌≡◌, ◌≤◌, ◌∷◌, [], IfOk, IfErr, OnOk, is_some, unsigned_abs};
+ghost use Rattle.mps_reader.specs.MpsRules.{first_kind, or_else, number_kind};
+ghost use Rattle.mps_reader.specs.MpsModels.{number_or_zero};
+ghost use Rattle.mps_reader.specs.SideNumbers.{side_kind, side_of, side_then, IsSameBesides};
 
 use crate::MpsKind;
 use crate::fault::{Fault, SetName, number_within};
@@ -18,7 +21,12 @@ pub(crate) enum Side {
 
 impl Side {
     // A number for a row, where the section reads it.
-    fn take_number(self, draft: &mut RowDraft, number: &[u8]) -> Result<(), MpsKind> {
+    fn take_number(self, draft: &mut RowDraft, number: &[u8]) -> Result<(), MpsKind>
+        ensures kind { OnOk result (side_kind self draft.old number.now ≡ None) }
+        ensures number { OnOk result (side_of self draft.new ≡ side_then self draft.old number.now) }
+        ensures rest { IsSameBesides self draft.old draft.new }
+        ensures err { IfErr result (λ kind. side_kind self draft.old number.now ≡ Some kind) }
+    {
         match (self, draft.role) {
             (_, RowRole::Dropped) | (Side::Range, RowRole::Objective) => Ok(()),
             (Side::Rhs, RowRole::Objective) => {
@@ -71,7 +79,9 @@ impl Side {
 
 // A number where none was given before.
 fn given(before: Option<i64>, number: &[u8], most: u64) -> Result<i64, MpsKind>
-    ensures { IfOk result (λ z. unsigned_abs z ≤ most) }
+    ensures limit { IfOk result (λ z. unsigned_abs z ≤ most) }
+    ensures ok { IfOk result (λ z. (or_else (first_kind ((is_some before, MpsKind.Duplicate) ∷ [])) (number_kind most number.now) ≡ None) × (z ≡ number_or_zero number.now)) }
+    ensures err { IfErr result (λ kind. or_else (first_kind ((is_some before, MpsKind.Duplicate) ∷ [])) (number_kind most number.now) ≡ Some kind) }
 {
     if before.is_some() {
         return Err(MpsKind::Duplicate);
