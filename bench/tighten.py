@@ -14,26 +14,9 @@ import sys
 import tempfile
 import time
 
-COLUMNS, ROWS, PER_COLUMN = 1000, 1000, 100
+from limits import ROWS, write_model
+
 ROUNDS = {"terms": 2000, "least": 2000, "replay": 500, "propose": 200}
-
-
-def write_model(path, rhs):
-    with open(path, "w") as out:
-        out.write("NAME limits\nROWS\n N cost\n")
-        for i in range(ROWS):
-            out.write(f" L row{i}\n")
-        out.write("COLUMNS\n    MARKER                 'MARKER'                 'INTORG'\n")
-        for j in range(COLUMNS):
-            for i in sorted((j * 37 + k * 10 + j // 10) % ROWS for k in range(PER_COLUMN)):
-                out.write(f"    column{j:<5} row{i:<6} {1 + (i + j) % 1000:>12}\n")
-        out.write("    MARKER                 'MARKER'                 'INTEND'\nRHS\n")
-        for i in range(ROWS):
-            out.write(f"    rhs       row{i:<6} {rhs}\n")
-        out.write("BOUNDS\n")
-        for j in range(COLUMNS):
-            out.write(f" UP bnd       column{j:<5} {100}\n")
-        out.write("ENDATA\n")
 
 
 def seconds(program, model, call, rounds):
@@ -48,8 +31,8 @@ def main():
     tries = int(sys.argv[2]) if len(sys.argv) > 2 else 7
     with tempfile.TemporaryDirectory() as folder:
         wide, narrow = os.path.join(folder, "wide.mps"), os.path.join(folder, "narrow.mps")
-        write_model(wide, 900_000_000)
-        write_model(narrow, 20_000)
+        write_model(wide, [("L", 900_000_000)] * ROWS)
+        write_model(narrow, [("L", 20_000)] * ROWS)
         for call, model in [("terms", wide), ("least", wide), ("replay", wide), ("propose", wide), ("propose", narrow)]:
             rounds = ROUNDS[call]
             times = []
