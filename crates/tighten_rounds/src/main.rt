@@ -66,7 +66,7 @@ fn call_of(word: &[u8]) -> Option<Call> {
 fn model_of(rt: &HostRuntime, name: &str) -> io::Result<Option<Model>> {
     let file = fs::open(rt, name)?;
     let mut bytes = Vec::new(rt.alloc());
-    file.take(MAX_BYTES as u64).read_to_end(&mut bytes)?;
+    file.take(MAX_BYTES as u64 + 1).read_to_end(&mut bytes)?;
     if bytes.len() > MAX_BYTES {
         return Ok(None);
     }
