@@ -1,0 +1,9 @@
+pub mod Names
+pub mod Values
+pub mod Kinds
+pub mod ChangesText
+pub mod Readings
+pub mod Faults
+pub mod Tables
+pub mod Words
+pub mod Takings
