@@ -46,3 +46,5 @@ pub fn write_report(
     Ok(out)
 }
 
+#[cfg(test)]
+mod tests;

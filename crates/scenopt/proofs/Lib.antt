@@ -1,5 +1,4 @@
 mod SearchLemmas
-mod ReportLemmas
 mod WordLemmas
-mod BaseLemmas
 mod DeskLemmas
+mod RunLemmas

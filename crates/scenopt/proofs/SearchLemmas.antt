@@ -5,13 +5,17 @@ use Rattle.std.specs.Int.{int_min, int_max}
 use Rattle.std.proofs.lemmas.Int.{ints, clamps, by_lt_z}
 use Rattle.std.proofs.lemmas.List.{append-nil, get_or-map, length-map}
 use Rattle.std.proofs.Math.ListN.{length-set, length-append, get_or-append}
+use Rattle.std.proofs.lemmas.List.{get_or_append_left}
+use Rattle.std.proofs.Math.Seq.{get_or-append_seam}
+use Rattle.std.proofs.lemmas.Bool.{cases_lt}
 use Rattle.std.proofs.lemmas.List.Elements.{All-push, All-nil, All-append, All-cons}
 use Rattle.std.proofs.lemmas.List.Sums.{sum_by_push, sum_by-append}
 use Rattle.std.proofs.lemmas.Bool.Decides.{Decides-int_eq}
-use Rattle.int_model.specs.Integers.{int_at, int_eq, dot}
+use Rattle.int_model.specs.Integers.{int_at, int_eq}
 use Rattle.int_model.specs.Boxes.{Interval, Box, box_of, InBox, is_empty, is_single, volume, interval_at, below_cut, above_cut}
 use Rattle.int_model.specs.Programs.{Program, Terms, Feasible, MeetsRows, IsBetween, row_sum, value}
 use Rattle.int_model.specs.RowSums.{least_product, greatest_product, least_sum, greatest_sum, is_above, is_below, misses_ends, row_misses}
+use Rattle.int_model.specs.Models.{IntegerModel}
 use Rattle.int_model.specs.declared.model.Ends.{Ends}
 use Rattle.int_model.specs.declared.model.Row.{Row}
 use Rattle.std.proofs.lemmas.Option.{get_or_from_slice_get, slice_get_within}
@@ -19,7 +23,13 @@ use Rattle.int_model.proofs.BoxLaws.{splits, tells-points, length-InBox}
 use Rattle.int_model.proofs.VolumeLaws.{volume-pos, not_empty-points}
 use Rattle.int_model.proofs.RowSumLaws.{row_misses-none}
 use Rattle.scenopt.specs.declared.search.Best.{Best}
-use Rattle.scenopt.specs.Searches.{HasNone, MissesNone, HasHalves, HasValue, IsValue, IsKept, IsAtMost, KeepsPoint, Keeps, InSome, IsPart, weight, total_weight, Covers, Visits}
+use Rattle.scen_report.specs.Reports.{IsValue}
+use Rattle.scenario_changes.specs.Changes.{no_change}
+use Rattle.scenario_changes.specs.Answers.{HasValue, RightAnswer}
+use Rattle.scenario_changes.specs.Problems.{Problem, Scenarios, problem, program_at, scenario_of, solved}
+use Rattle.scenario_changes.specs.declared.answer.Answer.{Answer}
+use Rattle.scenario_changes.specs.declared.answer.Answer.TheVariants.{Infeasible, Optimal}
+use Rattle.scenopt.specs.Searches.{program_over, answer_at, HasNone, MissesNone, HasHalves, IsKept, IsAtMost, KeepsPoint, Keeps, InSome, IsPart, weight, total_weight, Covers, Visits}
 
 -- ---- boxes and their sides
 
@@ -295,11 +305,55 @@ covers_root p e = record {
   covered = λ x f. inl (inl f.within);
 }
 
--- ---- the value of a point
+-- ---- scenarios
 
-dot-drop : (cs x : List ℤ) (j : ℕ) → j < length cs → j < length x → dot (drop j cs) (drop j x) ≡ (get_or cs j (pos 0) *ℤ get_or x j (pos 0)) +ℤ dot (drop (j + 1) cs) (drop (j + 1) x)
-dot-drop cs x j h k = rw (add-one, drop-cons cs j (pos 0), drop-cons x j (pos 0)) refl
+pub scenario_rows : (p : Scenarios) (s : ℕ) → s < length (problem p).scenarios → (program_at (problem p) s).rows ≡ map (λ (i : Row). i.terms) p.model.rows
+scenario_rows p s h =
+    let changes = solved p.model p.changes in
+    ap (λ (q : Program). q.rows) (get_or-map (scenario_of p.model) changes s (no_change 0 0) (record { costs = []; constant = pos 0; bounds = []; rows = []; ends = [] }) (omega (arith, h, length-map changes (scenario_of p.model))))
 
--- one product more
-pub dot-more : (cs x : List ℤ) (j : ℕ) (s r t : ℤ) → j < length cs → j < length x → dot cs x ≡ s +ℤ dot (drop j cs) (drop j x) → r ≡ get_or cs j (pos 0) *ℤ get_or x j (pos 0) → t ≡ s +ℤ r → dot cs x ≡ t +ℤ dot (drop (j + 1) cs) (drop (j + 1) x)
-dot-more cs x j s r t h k before is after = omega (arith, ints, before, after, is, dot-drop cs x j h k)
+pub scenario_shape : (p : Scenarios) (s : ℕ) (ends : List Ends) → s < length (problem p).scenarios → ends ≡ (program_at (problem p) s).ends → length ends ≡ length p.model.rows → length (program_at (problem p) s).ends ≡ length (program_at (problem p) s).rows
+scenario_shape p s ends h e count = sym (ap length e) ∙ count ∙ sym (ap length (scenario_rows p s h) ∙ length-map p.model.rows (λ (i : Row). i.terms))
+
+-- whether row i misses a box, by what the problem tells of the row
+pub row_verdict : (p : Scenarios) (s : ℕ) (box : Box) (m : IntegerModel) (ends : List Ends) (i : ℕ) (r : Row) (terms : Terms) (b : Bool) → s < length (problem p).scenarios → m ≡ p.model → ends ≡ (program_at (problem p) s).ends → slice_get m.rows i ≡ Some r → terms ≡ r.terms → b ≡ misses_ends terms (get_or ends i (record { lower = None; upper = None })) box → row_misses (program_over p s box) i box ≡ b
+row_verdict p s box m ends i r terms b h same e at own is =
+    let at_model : slice_get p.model.rows i ≡ Some r = subst (λ (n : IntegerModel). slice_get n.rows i ≡ Some r) same at in
+    let by : b ≡ misses_ends r.terms (get_or (program_at (problem p) s).ends i (record { lower = None; upper = None })) box =
+    is ∙ ap (λ (t : Terms). misses_ends t (get_or ends i (record { lower = None; upper = None })) box) own ∙ ap (λ (l : List Ends). misses_ends r.terms (get_or l i (record { lower = None; upper = None })) box) e in
+    row_misses_by (program_over p s box) p.model.rows i r b (scenario_rows p s h) at_model by
+
+-- the box of a scenario's bounds
+pub scenario_root : (p : Scenarios) (s : ℕ) (lows highs : List ℤ) (root : Box) → lows ≡ lows_of (program_at (problem p) s).bounds → highs ≡ highs_of (program_at (problem p) s).bounds → root ≡ box_of lows highs → root ≡ (program_at (problem p) s).bounds
+scenario_root p s lows highs root e f g = g ∙ sides_same (program_at (problem p) s).bounds lows highs e f
+
+pub root_length : (b root : Box) (lows : List ℤ) (n : ℕ) → root ≡ b → lows ≡ lows_of b → length lows ≡ n → length root ≡ n
+root_length b root lows n e f g = ap length e ∙ sym (ap length f ∙ length-map b (λ (i : Interval). i.low)) ∙ g
+
+-- The best point that was kept until no box was open is the answer.
+pub answered : (p : Scenarios) (s : ℕ) (root : Box) (best : Option Best) (b : Best) → root ≡ (program_at (problem p) s).bounds → Covers (program_over p s root) [] best → best ≡ Some b → RightAnswer (program_at (problem p) s) (Optimal b.point b.value)
+answered p s root best b e c is =
+    let q = program_over p s root in
+    let kept : Covers q [] (Some b) = subst (λ (o : Option Best). Covers q [] o) is c in
+    let right : RightAnswer q (Optimal b.point b.value) = (kept.kept.0, λ x f. elim (kept.covered x f) [ inl i ↦ absurd i | inr l ↦ l ]) in
+    subst (λ (r : Box). RightAnswer (program_over p s r) (Optimal b.point b.value)) e right
+
+pub answered_none : (p : Scenarios) (s : ℕ) (root : Box) (best : Option Best) → root ≡ (program_at (problem p) s).bounds → Covers (program_over p s root) [] best → best ≡ None → RightAnswer (program_at (problem p) s) Infeasible
+answered_none p s root best e c is =
+    let q = program_over p s root in
+    let kept : Covers q [] None = subst (λ (o : Option Best). Covers q [] o) is c in
+    let right : RightAnswer q Infeasible = λ x f. elim (kept.covered x f) [ inl i ↦ absurd i | inr l ↦ absurd l ] in
+    subst (λ (r : Box). RightAnswer (program_over p s r) Infeasible) e right
+
+-- ---- answers one by one
+
+pub right_more : (p : Problem) (answers new : List Answer) (a : Answer) (n : ℕ) → new ≡ answers ++ a ∷ [] → length answers ≡ n → ((s : ℕ) → s < length answers → RightAnswer (program_at p s) (answer_at answers s)) → RightAnswer (program_at p n) a → (s : ℕ) → s < length new → RightAnswer (program_at p s) (answer_at new s)
+right_more p answers new a n is count before now s h =
+    let less : s < length answers + 1 = omega (arith, h, ap length is, length-append answers (a ∷ [])) in
+    subst (λ (l : List Answer). RightAnswer (program_at p s) (answer_at l s)) (sym is) (elim (cases_lt s (length answers)) [
+      | inl below ↦ subst (λ (x : Answer). RightAnswer (program_at p s) x) (sym (get_or_append_left answers (a ∷ []) Infeasible s below)) (before s below)
+      | inr above ↦
+          let last : length answers ≡ s = omega (arith, less, above) in
+          let own : RightAnswer (program_at p (length answers)) a = subst (λ (k : ℕ). RightAnswer (program_at p k) a) (sym count) now in
+          subst (λ (k : ℕ). RightAnswer (program_at p k) (answer_at (answers ++ a ∷ []) k)) last (subst (λ (x : Answer). RightAnswer (program_at p (length answers)) x) (sym (get_or-append_seam answers a [] Infeasible)) own)
+    ])

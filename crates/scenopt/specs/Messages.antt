@@ -1,30 +1,71 @@
 -- What the program says on standard error.
 use Rattle.std.specs.Prelude.{ℕ, List, ◌++◌, codes, decimal}
+use Rattle.changes_reader.specs.declared.ChangesKind.{ChangesKind}
+use Rattle.changes_reader.specs.declared.ChangesKind.TheVariants as changes
 use Rattle.mps_reader.specs.declared.MpsKind.{MpsKind}
-use Rattle.mps_reader.specs.declared.MpsKind.TheVariants.{Section, NoEnd, Fields, UnknownRow, UnknownColumn, Duplicate, LongName, Continuous, Number, Fraction, Magnitude, SecondSet, TooMany, Unbounded, NegativeUpper}
+use Rattle.mps_reader.specs.declared.MpsKind.TheVariants as model
+use Rattle.scenopt.specs.declared.input.Input.{Input}
+use Rattle.scenopt.specs.declared.input.Input.TheVariants.{Model, Changes}
 
 -- the usage text
 abbrev pub usage : List ℕ
 usage = codes "usage: scenopt solve MODEL CHANGES [--workers N] [--nodes K] [--log FILE]\n       scenopt check MODEL CHANGES LOG\n       scenopt gen SEED COLUMNS ROWS SCENARIOS\n"
 
--- the name of a kind
-abbrev pub kind_word : MpsKind → List ℕ
-kind_word Section = codes "Section"
-kind_word NoEnd = codes "NoEnd"
-kind_word Fields = codes "Fields"
-kind_word UnknownRow = codes "UnknownRow"
-kind_word UnknownColumn = codes "UnknownColumn"
-kind_word Duplicate = codes "Duplicate"
-kind_word LongName = codes "LongName"
-kind_word Continuous = codes "Continuous"
-kind_word Number = codes "Number"
-kind_word Fraction = codes "Fraction"
-kind_word Magnitude = codes "Magnitude"
-kind_word SecondSet = codes "SecondSet"
-kind_word TooMany = codes "TooMany"
-kind_word Unbounded = codes "Unbounded"
-kind_word NegativeUpper = codes "NegativeUpper"
+abbrev pub out_of_memory : List ℕ
+out_of_memory = codes "out of memory\n"
 
--- a model text that is refused at a line
-unfoldable pub model_line : ℕ → MpsKind → List ℕ
-model_line line kind = codes "model line " ++ decimal line ++ codes ": " ++ kind_word kind ++ codes "\n"
+-- the report could not be printed
+abbrev pub unwritable : List ℕ
+unwritable = codes "cannot write output\n"
+
+-- a file could not be read
+abbrev pub unreadable : Input → List ℕ
+unreadable Model = codes "cannot read model\n"
+unreadable Changes = codes "cannot read changes\n"
+
+-- a file is longer than the limit
+abbrev pub too_long : Input → List ℕ
+too_long Model = codes "model: too long\n"
+too_long Changes = codes "changes: too long\n"
+
+-- the name of a kind
+abbrev pub model_kind : MpsKind → List ℕ
+model_kind model.Section = codes "Section"
+model_kind model.NoEnd = codes "NoEnd"
+model_kind model.Fields = codes "Fields"
+model_kind model.UnknownRow = codes "UnknownRow"
+model_kind model.UnknownColumn = codes "UnknownColumn"
+model_kind model.Duplicate = codes "Duplicate"
+model_kind model.LongName = codes "LongName"
+model_kind model.Continuous = codes "Continuous"
+model_kind model.Number = codes "Number"
+model_kind model.Fraction = codes "Fraction"
+model_kind model.Magnitude = codes "Magnitude"
+model_kind model.SecondSet = codes "SecondSet"
+model_kind model.TooMany = codes "TooMany"
+model_kind model.Unbounded = codes "Unbounded"
+model_kind model.NegativeUpper = codes "NegativeUpper"
+
+abbrev pub changes_kind : ChangesKind → List ℕ
+changes_kind changes.Header = codes "Header"
+changes_kind changes.Word = codes "Word"
+changes_kind changes.Fields = codes "Fields"
+changes_kind changes.TooMany = codes "TooMany"
+changes_kind changes.NoScenario = codes "NoScenario"
+changes_kind changes.UnknownColumn = codes "UnknownColumn"
+changes_kind changes.UnknownRow = codes "UnknownRow"
+changes_kind changes.LongName = codes "LongName"
+changes_kind changes.Number = codes "Number"
+changes_kind changes.Fraction = codes "Fraction"
+changes_kind changes.Magnitude = codes "Magnitude"
+changes_kind changes.BadRemoval = codes "BadRemoval"
+
+-- a text that is refused at a line, by the name of its kind
+unfoldable pub line_text : List ℕ → ℕ → List ℕ → List ℕ
+line_text text line kind = text ++ codes " line " ++ decimal line ++ codes ": " ++ kind ++ codes "\n"
+
+abbrev pub model_line : ℕ → MpsKind → List ℕ
+model_line line kind = line_text (codes "model") line (model_kind kind)
+
+abbrev pub changes_line : ℕ → ChangesKind → List ℕ
+changes_line line kind = line_text (codes "changes") line (changes_kind kind)

@@ -1,14 +1,20 @@
 -- What a run of the program does to its desk, by its status.
-use Rattle.std.specs.Prelude.{◌≡◌, ◌⊎◌, ℕ, ◌<◌, ◌≤◌, List, [], ◌∷◌, ◌++◌, length, take, codes, Option, IfSome, option_map}
+use Rattle.std.specs.Prelude.{◌≡◌, ◌⊎◌, ℕ, ◌<◌, ◌≤◌, List, [], ◌∷◌, ◌++◌, length, take, Option, Some, None, IfSome, option_map, Ok, Err}
 use Rattle.desk.specs.Causes.{Rose}
-use Rattle.desk.specs.Desk.{View, bytes_of}
-use Rattle.int_model.specs.Models.{IntegerModel, program_of}
+use Rattle.desk.specs.Desk.{View, Files, bytes_of}
+use Rattle.int_model.specs.Models.{IntegerModel}
 use Rattle.mps_reader.specs.declared.MpsKind.{MpsKind}
-use Rattle.scenopt.specs.Messages.{usage, model_line}
-use Rattle.scenopt.specs.Reports.{report}
-use Rattle.scenopt.specs.Searches.{RightAnswer}
-use Rattle.scenopt.specs.Words.{IsSolve, IsNoCommand}
-use Rattle.scenopt.specs.declared.search.Answer.{Answer}
+use Rattle.scenario_changes.specs.Changes.{Change, ChangeSet}
+use Rattle.scenario_changes.specs.Problems.{Scenarios, problem}
+use Rattle.scenario_changes.specs.declared.answer.Answer.{Answer}
+use Rattle.changes_reader.specs.ChangesText.{changes_of}
+use Rattle.changes_reader.specs.declared.ChangesKind.{ChangesKind}
+use Rattle.scen_report.specs.Reports.{report_text}
+use Rattle.scenopt.specs.Messages.{usage, out_of_memory, unwritable, unreadable, too_long, model_line, changes_line}
+use Rattle.scenopt.specs.Searches.{AreRight}
+use Rattle.scenopt.specs.Words.{Inputs, IsSolve, IsNoCommand}
+use Rattle.scenopt.specs.declared.input.Input.{Input}
+use Rattle.scenopt.specs.declared.input.Input.TheVariants.{Model, Changes}
 use Rattle.scenopt.specs.declared.run.Status.{Status}
 use Rattle.scenopt.specs.declared.run.Status.TheVariants as status
 
@@ -17,9 +23,17 @@ abbrev pub status_code : Status → ℕ
 status_code status.Done = 0
 status_code status.Usage = 1
 status_code status.ModelRefused = 2
+status_code status.ChangesRefused = 3
 status_code status.ReadFault = 4
 status_code status.WriteFault = 5
 status_code status.Memory = 6
+
+-- the status where a text is refused
+abbrev pub refused : Input → Status
+refused Model = status.ModelRefused
+refused Changes = status.ChangesRefused
+
+-- ---- what a desk's parts become
 
 -- all of a text was added
 abbrev pub Adds : Option (List ℕ) → Option (List ℕ) → List ℕ → Type 0
@@ -29,13 +43,70 @@ Adds old new text = new ≡ option_map (λ told. told ++ text) old
 abbrev pub AddsFront : Option (List ℕ) → Option (List ℕ) → List ℕ → Type 0
 AddsFront old new text = (n : ℕ) × (new ≡ option_map (λ told. told ++ take n text) old)
 
--- the files and what was fetched, printed and warned are as they were, but for what a warning adds
-pub record OnlyWarns (old new : View) : Type 0 where
-  pub files : new.files ≡ old.files
-  pub printed : new.printed ≡ old.printed
-  pub fetched : new.fetched ≡ old.fetched
-  pub fetch_faults : new.fetch_faults ≡ old.fetch_faults
-  pub write_faults : old.write_faults ≤ new.write_faults
+-- these names were asked for, in order
+abbrev pub AddsNames : View → View → List (List ℕ) → Type 0
+AddsNames old new names = new.fetched ≡ option_map (λ told. told ++ names) old.fetched
+
+-- ---- what the files mean
+
+-- the bytes of a file of at most 16,777,216 bytes, where files are told
+pub record HasBytes (files : Option Files) (name bytes : List ℕ) : Type 0 where
+  pub told : IfSome files (λ m. bytes ≡ bytes_of m name)
+  pub fits : length bytes ≤ 16777216
+
+-- a longer file
+abbrev pub IsTooLong : Option Files → List ℕ → Type 0
+IsTooLong files name = IfSome files (λ m. 16777216 < length (bytes_of m name))
+
+-- the changes of all scenarios in a file; without a file there is no scenario
+abbrev pub HasChanges : Option Files → Option (List ℕ) → IntegerModel → List Change → Type 0
+HasChanges files None m scenarios = scenarios ≡ []
+HasChanges files (Some name) m scenarios = (bytes : List ℕ) × HasBytes files name bytes × ((set : ChangeSet) × (changes_of m bytes ≡ Ok set) × (scenarios ≡ set.scenarios))
+
+-- a model from the text of a file
+pub record HasModel (files : Option Files) (name : List ℕ) (m : IntegerModel) : Type 0 where
+  pub bytes : List ℕ
+  pub has : HasBytes files name bytes
+
+-- the problem of a command's files
+pub record HasProblem (files : Option Files) (inputs : Inputs) (p : Scenarios) : Type 0 where
+  pub model : HasModel files inputs.model p.model
+  pub changes : HasChanges files inputs.changes p.model p.changes
+
+-- a report of right answers to all scenarios
+pub record IsAnswered (p : Scenarios) (text : List ℕ) : Type 0 where
+  pub answers : List Answer
+  pub right : AreRight (problem p) answers
+  pub reported : text ≡ report_text p answers
+
+-- ---- how a run ends
+
+-- why a model is refused, as a message
+abbrev pub IsModelRefusal : Option Files → List ℕ → List ℕ → Type 0
+IsModelRefusal files name message =
+    (IsTooLong files name × (message ≡ too_long Model))
+    ⊎ ((bytes : List ℕ) × HasBytes files name bytes × ((line : ℕ) × (kind : MpsKind) × (message ≡ model_line line kind)))
+
+-- why a file of changes to a model is refused, as a message
+abbrev pub IsChangesRefusal : Option Files → Option (List ℕ) → IntegerModel → List ℕ → Type 0
+IsChangesRefusal files None m message = ⊥
+IsChangesRefusal files (Some name) m message =
+    (IsTooLong files name × (message ≡ too_long Changes))
+    ⊎ ((bytes : List ℕ) × HasBytes files name bytes × ((line : ℕ) × (kind : ChangesKind) × (changes_of m bytes ≡ Err (line, kind)) × (message ≡ changes_line line kind)))
+
+-- why a command's text is refused, as a message: the changes only where the model is not
+abbrev pub IsRefusal : Option Files → Inputs → Input → List ℕ → Type 0
+IsRefusal files inputs Model message = IsModelRefusal files inputs.model message
+IsRefusal files inputs Changes message = (m : IntegerModel) × HasModel files inputs.model m × IsChangesRefusal files inputs.changes m message
+
+-- the names that are asked for up to a text
+abbrev pub names_of : Option (List ℕ) → List (List ℕ)
+names_of None = []
+names_of (Some name) = name ∷ []
+
+abbrev pub names_to : Inputs → Input → List (List ℕ)
+names_to inputs Model = inputs.model ∷ []
+names_to inputs Changes = inputs.model ∷ names_of inputs.changes
 
 -- what warning a message that belongs to a status gives: the status where all of it was warned, or else why not
 abbrev pub Tells : Status → List ℕ → View → View → Status → Type 0
@@ -44,77 +115,80 @@ Tells s message old new result =
     ⊎ ((result ≡ status.WriteFault) × Rose old.write_faults new.write_faults × AddsFront old.warned new.warned message)
     ⊎ ((result ≡ status.Memory) × (new.warned ≡ old.warned))
 
--- a text that reports a right answer to a model
-pub record IsAnswered (text : List ℕ) : Type 0 where
-  pub model : IntegerModel
-  pub answer : Answer
-  pub right : RightAnswer (program_of model) answer
-  pub reported : text ≡ report model answer
+-- a text was refused, and the message of that told
+abbrev pub Refuses : Input → (List ℕ → Type 0) → View → View → Status → Type 0
+Refuses input IsWhy old new result = (message : List ℕ) × IsWhy message × Tells (refused input) message old new result
 
--- a line and a kind at which a model text is refused, as a message
-abbrev pub NamesLine : List ℕ → Type 0
-NamesLine message = (line : ℕ) × (kind : MpsKind) × (message ≡ model_line line kind)
+-- a file couldn't be read
+pub record Misses (input : Input) (old new : View) (result : Status) : Type 0 where
+  pub status : result ≡ status.ReadFault
+  pub rose : Rose old.fetch_faults new.fetch_faults
+  pub warned : AddsFront old.warned new.warned (unreadable input)
 
--- the files, what was fetched and the fetch faults are as they were
+-- memory was wanting
+pub record Lacks (old new : View) (result : Status) : Type 0 where
+  pub status : result ≡ status.Memory
+  pub warned : AddsFront old.warned new.warned out_of_memory
+
+-- A run stopped at a text, behind these names: it was refused or couldn't be read, or before all of them were asked
+-- for, or behind them, memory was wanting.
+abbrev pub Stops : Input → (List ℕ → Type 0) → List (List ℕ) → View → View → Status → Type 0
+Stops input IsWhy names old new result =
+    (AddsNames old new names × (Refuses input IsWhy old new result ⊎ Misses input old new result))
+    ⊎ (Lacks old new result × ((n : ℕ) × AddsNames old new (take n names)))
+
+-- the report was printed, or there was a fault at that or want of memory
+abbrev pub Reports : Scenarios → View → View → Status → Type 0
+Reports p old new status.Done = (text : List ℕ) × IsAnswered p text × Adds old.printed new.printed text × (new.warned ≡ old.warned)
+Reports p old new status.WriteFault = Rose old.write_faults new.write_faults × ((text : List ℕ) × IsAnswered p text × AddsFront old.printed new.printed text × AddsFront old.warned new.warned unwritable)
+Reports p old new status.Memory = (new.printed ≡ old.printed) × AddsFront old.warned new.warned out_of_memory
+Reports p old new status.Usage = ⊥
+Reports p old new status.ModelRefused = ⊥
+Reports p old new status.ChangesRefused = ⊥
+Reports p old new status.ReadFault = ⊥
+
+-- a run stopped at one of a command's texts
+abbrev pub StopsAtInput : Inputs → View → View → Status → Type 0
+StopsAtInput inputs old new result = (input : Input) × Stops input (IsRefusal old.files inputs input) (names_to inputs input) old new result
+
+-- A `solve` stopped at one of its texts and printed nothing, or it reported on the problem of its files.
+abbrev pub Solves : Inputs → View → View → Status → Type 0
+Solves inputs old new result =
+    (StopsAtInput inputs old new result × (new.printed ≡ old.printed))
+    ⊎ ((p : Scenarios) × HasProblem old.files inputs p × AddsNames old new (names_to inputs Changes) × Reports p old new result)
+
+-- ---- steps of a run
+
+-- the files and what was printed stay, and no count of faults falls
 pub record Stays (old new : View) : Type 0 where
   pub files : new.files ≡ old.files
+  pub printed : new.printed ≡ old.printed
+  pub fetch_faults : old.fetch_faults ≤ new.fetch_faults
+  pub write_faults : old.write_faults ≤ new.write_faults
+
+-- the files and what was fetched and printed are as they were
+pub record OnlyWarns (old new : View) : Type 0 where
+  pub files : new.files ≡ old.files
+  pub printed : new.printed ≡ old.printed
   pub fetched : new.fetched ≡ old.fetched
   pub fetch_faults : new.fetch_faults ≡ old.fetch_faults
+  pub write_faults : old.write_faults ≤ new.write_faults
 
--- What is printed and warned for a model file that was fetched. A fault is that of the print, or of the warning that
--- the model is refused.
-abbrev pub Prints : View → View → Status → Type 0
-Prints old new status.Done = (text : List ℕ) × IsAnswered text × Adds old.printed new.printed text × (new.warned ≡ old.warned)
-Prints old new status.ModelRefused = (message : List ℕ) × NamesLine message × (new.printed ≡ old.printed) × Adds old.warned new.warned message
-Prints old new status.WriteFault =
-    Rose old.write_faults new.write_faults
-    × (((text : List ℕ) × IsAnswered text × AddsFront old.printed new.printed text × AddsFront old.warned new.warned (codes "cannot write output\n"))
-    ⊎ ((message : List ℕ) × NamesLine message × (new.printed ≡ old.printed) × AddsFront old.warned new.warned message))
-Prints old new status.Memory = (new.printed ≡ old.printed) × AddsFront old.warned new.warned (codes "out of memory\n")
-Prints old new status.Usage = ⊥
-Prints old new status.ReadFault = ⊥
+-- these names were asked for, and nothing was said
+pub record Fetches (names : List (List ℕ)) (old new : View) : Type 0 where
+  pub asked : AddsNames old new names
+  pub warned : new.warned ≡ old.warned
 
--- why a model is refused, with the message: its file is longer than the limit, or its text is refused at a line
-abbrev pub IsRefusal : ℕ → List ℕ → Type 0
-IsRefusal size message = ((16777216 < size) × (message ≡ codes "model: too long\n")) ⊎ ((size ≤ 16777216) × NamesLine message)
-
--- the size of a file, where files are told
-abbrev pub WhereTold : View → List ℕ → (ℕ → Type 0) → Type 0
-WhereTold v name P = IfSome v.files (λ m. P (length (bytes_of m name)))
-
--- the outcome of `solve` over the file of a name, by the status
-abbrev pub Solves : List ℕ → View → View → Status → Type 0
-Solves name old new status.Done = WhereTold old name (λ size. size ≤ 16777216) × ((text : List ℕ) × IsAnswered text × Adds old.printed new.printed text × (new.warned ≡ old.warned))
-Solves name old new status.ModelRefused = (message : List ℕ) × WhereTold old name (λ size. IsRefusal size message) × (new.printed ≡ old.printed) × Adds old.warned new.warned message
-Solves name old new status.ReadFault = Rose old.fetch_faults new.fetch_faults × (new.printed ≡ old.printed) × AddsFront old.warned new.warned (codes "cannot read model\n")
-Solves name old new status.WriteFault =
-    Rose old.write_faults new.write_faults
-    × (((text : List ℕ) × IsAnswered text × AddsFront old.printed new.printed text × AddsFront old.warned new.warned (codes "cannot write output\n"))
-    ⊎ ((message : List ℕ) × WhereTold old name (λ size. IsRefusal size message) × (new.printed ≡ old.printed) × AddsFront old.warned new.warned message))
-Solves name old new status.Memory = (new.printed ≡ old.printed) × AddsFront old.warned new.warned (codes "out of memory\n")
-Solves name old new status.Usage = ⊥
-
--- the names that were asked for grew by this one
-abbrev pub AddsName : View → View → List ℕ → Type 0
-AddsName old new name = new.fetched ≡ option_map (λ names. names ++ name ∷ []) old.fetched
-
--- so much was asked for: the model, or after want of memory perhaps nothing
-abbrev pub Asks : List ℕ → View → View → Status → Type 0
-Asks name old new status.Memory = (new.fetched ≡ old.fetched) ⊎ AddsName old new name
-Asks name old new status.Done = AddsName old new name
-Asks name old new status.ModelRefused = AddsName old new name
-Asks name old new status.ReadFault = AddsName old new name
-Asks name old new status.WriteFault = AddsName old new name
-Asks name old new status.Usage = ⊥
+-- ---- the program
 
 -- the outcome where the words are no command
-pub record Refuses (old new : View) (result : Status) : Type 0 where
+pub record RefusesWords (old new : View) (result : Status) : Type 0 where
   pub warned : Tells status.Usage usage old new result
   pub printed : new.printed ≡ old.printed
   pub fetched : new.fetched ≡ old.fetched
 
 -- the outcome of a run
 pub record Runs (words : List (List ℕ)) (old new : View) (result : Status) : Type 0 where
-  pub solve : (model : List ℕ) → IsSolve words model → Solves model old new result × Asks model old new result
-  pub no_command : IsNoCommand words → Refuses old new result
+  pub solve : (inputs : Inputs) → IsSolve words inputs → Solves inputs old new result
+  pub no_command : IsNoCommand words → RefusesWords old new result
   pub files : new.files ≡ old.files

@@ -1,44 +1,27 @@
--- What the plain search is asked, and what it keeps.
-use Rattle.std.specs.Prelude.{◌≡◌, ◌⊎◌, ℕ, ◌+◌, ◌-◌, ◌*◌, ◌^◌, ◌<◌, ◌≤◌, ℤ, unsigned_abs, ◌≤ℤ◌, ◌<ℤ◌, List, [], ◌∷◌, ◌++◌, length, map, All, Option, Some, None, sum_by, false}
-use Rattle.int_model.specs.Limits.{IsEntry, IsConstant}
+-- What the plain search looks for, and what it keeps.
+use Rattle.std.specs.Prelude.{◌≡◌, ◌⊎◌, ℕ, ◌+◌, ◌-◌, ◌*◌, ◌<◌, ◌≤◌, ℤ, ◌≤ℤ◌, List, [], ◌∷◌, ◌++◌, length, All, slice_index_or, Option, Some, None, sum_by, false}
 use Rattle.int_model.specs.Boxes.{Box, InBox, is_empty, volume, interval_at, below_cut, above_cut}
 use Rattle.int_model.specs.Programs.{Program, Feasible, value}
 use Rattle.int_model.specs.RowSums.{row_misses}
-use Rattle.int_model.specs.declared.model.Row.{Row}
-use Rattle.scenopt.specs.declared.search.Asked.{Asked}
+use Rattle.scen_report.specs.Reports.{IsValue}
+use Rattle.scenario_changes.specs.Answers.{HasValue, RightAnswer}
+use Rattle.scenario_changes.specs.Problems.{Problem, Scenarios, problem, program_at}
+use Rattle.scenario_changes.specs.declared.answer.Answer.{Answer}
+use Rattle.scenario_changes.specs.declared.answer.Answer.TheVariants.{Infeasible}
 use Rattle.scenopt.specs.declared.search.Best.{Best}
-use Rattle.scenopt.specs.declared.search.Answer.{Answer}
-use Rattle.scenopt.specs.declared.search.Answer.TheVariants.{Infeasible, Optimal}
 
--- the program that is asked, over a box
-abbrev pub program_over : Asked → Box → Program
-program_over a box = record { costs = a.costs.now; constant = a.constant; bounds = box; rows = map (λ (i : Row). i.terms) a.model.now.rows; ends = a.ends.now }
+-- a scenario's program over a box in place of its bounds
+abbrev pub program_over : Scenarios → ℕ → Box → Program
+program_over p s box = record (program_at (problem p) s) { bounds = box }
 
--- one cost for each column and ends for each row, within the limits
-pub record IsAsked (a : Asked) : Type 0 where
-  pub few_columns : length a.costs.now ≤ 1000
-  pub cost_count : length a.costs.now ≡ length a.model.now.columns
-  pub end_count : length a.ends.now ≡ length a.model.now.rows
-  pub small_costs : All IsEntry a.costs.now
-  pub small_constant : IsConstant a.constant
+-- answer s; past the end none of it is asked
+abbrev pub answer_at : List Answer → ℕ → Answer
+answer_at answers s = slice_index_or answers s Infeasible
 
--- x is feasible and has the value v
-abbrev pub HasValue : Program → List ℤ → ℤ → Type 0
-HasValue p x v = Feasible p x × (value p x ≡ v)
-
--- Infeasible: no point is feasible. Optimal: a feasible point with its value, and no feasible point has a smaller one.
-abbrev pub RightAnswer : Program → Answer → Type 0
-RightAnswer p Infeasible = (x : List ℤ) → Feasible p x → ⊥
-RightAnswer p (Optimal x v) = HasValue p x v × ((y : List ℤ) → Feasible p y → v ≤ℤ value p y)
-
--- within the limit of values
-abbrev pub IsValue : ℤ → Type 0
-IsValue v = unsigned_abs v ≤ 2 ^ 60
-
--- a point has so many columns, and its value is within the limit
-abbrev pub AnswerFits : ℕ → Answer → Type 0
-AnswerFits columns Infeasible = Unit {0}
-AnswerFits columns (Optimal x v) = (length x ≡ columns) × IsValue v
+-- the right answer to each scenario, in order
+pub record AreRight (p : Problem) (answers : List Answer) : Type 0 where
+  pub count : length answers ≡ length p.scenarios
+  pub right : (s : ℕ) → s < length p.scenarios → RightAnswer (program_at p s) (answer_at answers s)
 
 -- no point of the program's box is feasible
 abbrev pub HasNone : Program → Type 0

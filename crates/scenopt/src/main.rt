@@ -1,10 +1,11 @@
 //! Solves bounded pure integer models from MPS files.
 #![tactic(auto)]
 
-mod base;
+#[cfg(test)]
+mod enumerated;
 mod host_desk;
+mod input;
 mod message;
-mod report;
 mod run;
 mod search;
 #[cfg(test)]

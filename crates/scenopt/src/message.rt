@@ -1,15 +1,16 @@
-// What is said of a model text that is refused.
-ghost use Rattle.std.specs.Prelude.{◌≡◌, IfOk};
-ghost use Rattle.scenopt.specs.Messages.{model_line};
+// What is said of a text that is refused.
+ghost use Rattle.std.specs.Prelude.{◌≡◌, IfOk, codes};
+ghost use Rattle.scenopt.specs.Messages.{line_text, model_line, changes_line};
 ghost use Rattle.scenopt.specs.Messages as spec;
 
+use changes_reader::ChangesKind;
 use mps_reader::MpsKind;
 use num_text::write_number;
 use std::alloc::{AllocError, Global};
 
 // The name of a kind.
-fn kind_word(kind: MpsKind) -> &'static [u8]
-    ensures { result.now ≡ spec.kind_word kind }
+fn model_kind(kind: MpsKind) -> &'static [u8]
+    ensures { result.now ≡ spec.model_kind kind }
 {
     match kind {
         MpsKind::Section => b"Section",
@@ -30,15 +31,54 @@ fn kind_word(kind: MpsKind) -> &'static [u8]
     }
 }
 
-/// The message that a model text is refused at a line.
-#[tactic(auto, unfolding(crate::specs::Messages::model_line))]
-pub(crate) fn line_message(alloc: Global, line: u32, kind: MpsKind) -> Result<Vec<u8>, AllocError>
-    ensures { IfOk result (λ text. text.items ≡ model_line line kind) }
+// The name of a kind.
+fn changes_kind(kind: ChangesKind) -> &'static [u8]
+    ensures { result.now ≡ spec.changes_kind kind }
 {
-    let mut text = Vec::from_slice(alloc, b"model line ")?;
-    write_number(&mut text, i64::from(line))?;
-    text.extend_from_slice(b": ")?;
-    text.extend_from_slice(kind_word(kind))?;
-    text.extend_from_slice(b"\n")?;
-    Ok(text)
+    match kind {
+        ChangesKind::Header => b"Header",
+        ChangesKind::Word => b"Word",
+        ChangesKind::Fields => b"Fields",
+        ChangesKind::TooMany => b"TooMany",
+        ChangesKind::NoScenario => b"NoScenario",
+        ChangesKind::UnknownColumn => b"UnknownColumn",
+        ChangesKind::UnknownRow => b"UnknownRow",
+        ChangesKind::LongName => b"LongName",
+        ChangesKind::Number => b"Number",
+        ChangesKind::Fraction => b"Fraction",
+        ChangesKind::Magnitude => b"Magnitude",
+        ChangesKind::BadRemoval => b"BadRemoval",
+    }
+}
+
+// A text is refused at a line.
+#[tactic(auto, unfolding(crate::specs::Messages::line_text))]
+fn line_message(alloc: Global, text: &[u8], line: u32, kind: &[u8]) -> Result<Vec<u8>, AllocError>
+    ensures { IfOk result (λ message. message.items ≡ line_text text.now line kind.now) }
+{
+    let mut message = Vec::from_slice(alloc, text)?;
+    message.extend_from_slice(b" line ")?;
+    write_number(&mut message, i64::from(line))?;
+    message.extend_from_slice(b": ")?;
+    message.extend_from_slice(kind)?;
+    message.extend_from_slice(b"\n")?;
+    Ok(message)
+}
+
+/// The message that a model's text is refused at a line.
+pub(crate) fn model_message(alloc: Global, line: u32, kind: MpsKind) -> Result<Vec<u8>, AllocError>
+    ensures { IfOk result (λ message. message.items ≡ model_line line kind) }
+{
+    line_message(alloc, b"model", line, model_kind(kind))
+}
+
+/// The message that a text of changes is refused at a line.
+pub(crate) fn changes_message(
+    alloc: Global,
+    line: u32,
+    kind: ChangesKind,
+) -> Result<Vec<u8>, AllocError>
+    ensures { IfOk result (λ message. message.items ≡ changes_line line kind) }
+{
+    line_message(alloc, b"changes", line, changes_kind(kind))
 }

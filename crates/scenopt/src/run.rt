@@ -1,15 +1,22 @@
 // The run of a command over a desk.
-ghost use Rattle.std.specs.Prelude.{◌≡◌, ◌≤◌, length, map, string_bytes, IfOk, MatchResult};
-ghost use Rattle.mps_reader.specs.declared.MpsError.TheVariants as mps;
-ghost use Rattle.scenopt.specs.Runs.{Runs, Solves, Asks, Prints, Stays, Tells, AddsFront, OnlyWarns, IsAnswered, status_code};
+ghost use Rattle.std.specs.Prelude.{◌≡◌, ◌∷◌, [], map, string_bytes, option_map, IfOk, IfErr, MatchResult};
+ghost use Rattle.scenario_changes.specs.Changes.{Fits};
+ghost use Rattle.scenopt.specs.Messages.{too_long};
+ghost use Rattle.scenopt.specs.Runs.{Runs, Solves, StopsAtInput, Reports, Stops, HasBytes, HasModel, HasChanges, HasProblem, IsAnswered, IsTooLong, IsModelRefusal, IsChangesRefusal, names_of, names_to, Stays, Fetches, Tells, Lacks, AddsFront, OnlyWarns, status_code};
+ghost use Rattle.scenopt.specs.declared.input.Input.TheVariants as input;
+ghost use Rattle.scenopt.specs.Runs as spec;
 
-use crate::base::answer_of;
-use crate::message::line_message;
-use crate::report::report_of;
+use crate::input::Input;
+use crate::message::{changes_message, model_message};
+use crate::search::answers_of;
 use crate::words::{Command, read_words};
+use changes_reader::{ChangesError, read_changes};
 use desk::{Desk, DeskError, FetchError};
-use mps_reader::{MAX_BYTES, MpsError, MpsKind, read_model};
-use std::alloc::Global;
+use int_model::Model;
+use mps_reader::{MAX_BYTES, MpsError, read_model};
+use scen_report::write_report;
+use scenario_changes::{Changes, Problem};
+use std::alloc::{AllocError, Global};
 
 /// How a run ended.
 #[derive(Clone, Copy, Debug, PartialEq, Eq)]
@@ -20,6 +27,8 @@ pub enum Status {
     Usage,
     /// The model's file is too long, or its text has no model.
     ModelRefused,
+    /// The changes' file is too long, or its text has no changes of the model.
+    ChangesRefused,
     /// A file could not be read.
     ReadFault,
     /// What was to be told could not be written.
@@ -37,6 +46,7 @@ impl Status {
             Status::Done => 0,
             Status::Usage => 1,
             Status::ModelRefused => 2,
+            Status::ChangesRefused => 3,
             Status::ReadFault => 4,
             Status::WriteFault => 5,
             Status::Memory => 6,
@@ -69,55 +79,138 @@ fn tried<D: Desk>(desk: &mut D, message: &[u8], status: Status) -> Status
     status
 }
 
-// Warns that the model's text is refused at a line.
-fn refuse_line<D: Desk>(alloc: Global, line: u32, kind: MpsKind, desk: &mut D) -> Status
-    ensures prints { Prints (D.view desk.old) (D.view desk.new) result }
+// Says that memory was wanting.
+fn lacking<D: Desk>(desk: &mut D) -> Status
+    ensures lacks { Lacks (D.view desk.old) (D.view desk.new) result }
+    ensures others { OnlyWarns (D.view desk.old) (D.view desk.new) }
+{
+    tried(desk, b"out of memory\n", Status::Memory)
+}
+
+// The bytes of a command's file, or the status after it was said what is wrong.
+fn fetched<D: Desk>(
+    alloc: Global,
+    name: &str,
+    input: Input,
+    desk: &mut D,
+) -> Result<Vec<u8>, Status>
+    ensures ok { IfOk result (λ bytes. HasBytes (D.view desk.old).files name.now bytes.items × Fetches (name.now ∷ []) (D.view desk.old) (D.view desk.new)) }
+    ensures err { IfErr result (Stops input (λ message. IsTooLong (D.view desk.old).files name.now × (message ≡ too_long input)) (name.now ∷ []) (D.view desk.old) (D.view desk.new)) }
     ensures stays { Stays (D.view desk.old) (D.view desk.new) }
-{
-    match line_message(alloc, line, kind) {
-        Ok(message) => told(desk, &message, Status::ModelRefused),
-        Err(_) => tried(desk, b"out of memory\n", Status::Memory),
-    }
-}
-
-// The report of the right answer to the model of the bytes.
-fn solved(alloc: Global, bytes: &[u8]) -> Result<Vec<u8>, MpsError>
-    requires { length bytes.now ≤ 16777216 }
-    ensures { IfOk result (λ text. IsAnswered text.items) }
-{
-    let model = read_model(alloc, bytes)?;
-    let answer = answer_of(alloc, &model).map_err(|_| MpsError::Memory)?;
-    report_of(alloc, &model, &answer).map_err(|_| MpsError::Memory)
-}
-
-// Prints the report for the model of the bytes.
-fn print_answer<D: Desk>(alloc: Global, bytes: &[u8], desk: &mut D) -> Status
-    requires { length bytes.now ≤ 16777216 }
-    ensures prints { Prints (D.view desk.old) (D.view desk.new) result }
-    ensures stays { Stays (D.view desk.old) (D.view desk.new) }
-{
-    match solved(alloc, bytes) {
-        Ok(report) => match desk.print(&report) {
-            Ok(()) => Status::Done,
-            Err(DeskError::Failed) => tried(desk, b"cannot write output\n", Status::WriteFault),
-            Err(DeskError::Memory) => tried(desk, b"out of memory\n", Status::Memory),
-        },
-        Err(MpsError::Line { line, kind }) => refuse_line(alloc, line, kind, desk),
-        Err(MpsError::Memory) => tried(desk, b"out of memory\n", Status::Memory),
-    }
-}
-
-// Solves the model in a file.
-fn solve<D: Desk>(alloc: Global, name: &str, desk: &mut D) -> Status
-    ensures solves { Solves name.now (D.view desk.old) (D.view desk.new) result }
-    ensures asks { Asks name.now (D.view desk.old) (D.view desk.new) result }
-    ensures files { (D.view desk.new).files ≡ (D.view desk.old).files }
 {
     match desk.fetch(alloc, name, MAX_BYTES) {
-        Ok(bytes) => print_answer(alloc, &bytes, desk),
-        Err(FetchError::TooLong) => told(desk, b"model: too long\n", Status::ModelRefused),
-        Err(FetchError::Failed) => tried(desk, b"cannot read model\n", Status::ReadFault),
-        Err(FetchError::Memory) => tried(desk, b"out of memory\n", Status::Memory),
+        Ok(bytes) => Ok(bytes),
+        Err(FetchError::TooLong) => Err(told(desk, input.too_long(), input.refused())),
+        Err(FetchError::Failed) => Err(tried(desk, input.unreadable(), Status::ReadFault)),
+        Err(FetchError::Memory) => Err(lacking(desk)),
+    }
+}
+
+// Tells the message of a text that is refused, where there was memory for it.
+fn refuse<D: Desk>(input: Input, message: Result<Vec<u8>, AllocError>, desk: &mut D) -> Status
+    ensures tells { MatchResult message (λ m. Tells (spec.refused input) m.items (D.view desk.old) (D.view desk.new) result) (λ _. Lacks (D.view desk.old) (D.view desk.new) result) }
+    ensures others { OnlyWarns (D.view desk.old) (D.view desk.new) }
+{
+    match message {
+        Ok(message) => told(desk, &message, input.refused()),
+        Err(_) => lacking(desk),
+    }
+}
+
+// The model of a file.
+fn model_in<D: Desk>(alloc: Global, name: &str, desk: &mut D) -> Result<Model, Status>
+    ensures ok { IfOk result (λ m. HasModel (D.view desk.old).files name.now m × Fetches (name.now ∷ []) (D.view desk.old) (D.view desk.new)) }
+    ensures err { IfErr result (Stops input.Model (IsModelRefusal (D.view desk.old).files name.now) (name.now ∷ []) (D.view desk.old) (D.view desk.new)) }
+    ensures stays { Stays (D.view desk.old) (D.view desk.new) }
+{
+    let bytes = fetched(alloc, name, Input::Model, desk)?;
+    match read_model(alloc, &bytes) {
+        Ok(model) => Ok(model),
+        Err(MpsError::Line { line, kind }) => {
+            Err(refuse(Input::Model, model_message(alloc, line, kind), desk))
+        }
+        Err(MpsError::Memory) => Err(lacking(desk)),
+    }
+}
+
+// The changes to a model in a file, or none without a file.
+fn changes_in<D: Desk>(
+    alloc: Global,
+    name: Option<&str>,
+    model: &Model,
+    desk: &mut D,
+) -> Result<Changes, Status>
+    ensures ok { IfOk result (λ c. HasChanges (D.view desk.old).files (option_map (λ n. n.now) name.entry) model.now c.scenarios × Fits c model.now × Fetches (names_of (option_map (λ n. n.now) name.entry)) (D.view desk.old) (D.view desk.new)) }
+    ensures err { IfErr result (Stops input.Changes (IsChangesRefusal (D.view desk.old).files (option_map (λ n. n.now) name.entry) model.now) (names_of (option_map (λ n. n.now) name.entry)) (D.view desk.old) (D.view desk.new)) }
+    ensures stays { Stays (D.view desk.old) (D.view desk.new) }
+{
+    let Some(name) = name else {
+        return match Changes::new(alloc, model) {
+            Ok(changes) => Ok(changes),
+            Err(_) => Err(lacking(desk)),
+        };
+    };
+    let bytes = fetched(alloc, name, Input::Changes, desk)?;
+    match read_changes(alloc, model, &bytes) {
+        Ok(changes) => Ok(changes),
+        Err(ChangesError::Line { line, kind }) => {
+            Err(refuse(Input::Changes, changes_message(alloc, line, kind), desk))
+        }
+        Err(ChangesError::Memory) => Err(lacking(desk)),
+    }
+}
+
+// The problem of the command's files.
+fn problem_in<D: Desk>(
+    alloc: Global,
+    model: &str,
+    changes: Option<&str>,
+    desk: &mut D,
+) -> Result<Problem, Status>
+    ensures ok { IfOk result (λ p. HasProblem (D.view desk.old).files (record { model = model.now; changes = option_map (λ c. c.now) changes.entry }) p × Fetches (names_to (record { model = model.now; changes = option_map (λ c. c.now) changes.entry }) input.Changes) (D.view desk.old) (D.view desk.new)) }
+    ensures err { IfErr result (λ s. StopsAtInput (record { model = model.now; changes = option_map (λ c. c.now) changes.entry }) (D.view desk.old) (D.view desk.new) s) }
+    ensures stays { Stays (D.view desk.old) (D.view desk.new) }
+{
+    let model = model_in(alloc, model, desk)?;
+    let changes = changes_in(alloc, changes, &model, desk)?;
+    match Problem::new(alloc, model, changes) {
+        Ok(problem) => Ok(problem),
+        Err(_) => Err(lacking(desk)),
+    }
+}
+
+// The report of the right answers to all scenarios.
+fn report_of(alloc: Global, problem: &Problem) -> Result<Vec<u8>, AllocError>
+    ensures { IfOk result (λ text. IsAnswered problem.now text.items) }
+{
+    let answers = answers_of(alloc, problem)?;
+    write_report(alloc, problem, &answers)
+}
+
+// Prints the report of a problem.
+fn print_report<D: Desk>(alloc: Global, problem: &Problem, desk: &mut D) -> Status
+    ensures reports { Reports problem.now (D.view desk.old) (D.view desk.new) result }
+    ensures files { (D.view desk.new).files ≡ (D.view desk.old).files }
+    ensures fetched { (D.view desk.new).fetched ≡ (D.view desk.old).fetched }
+{
+    let Ok(report) = report_of(alloc, problem) else {
+        return lacking(desk);
+    };
+    match desk.print(&report) {
+        Ok(()) => Status::Done,
+        Err(DeskError::Failed) => tried(desk, b"cannot write output\n", Status::WriteFault),
+        Err(DeskError::Memory) => lacking(desk),
+    }
+}
+
+// Solves each scenario of the problem in the command's files.
+fn solve<D: Desk>(alloc: Global, model: &str, changes: Option<&str>, desk: &mut D) -> Status
+    ensures solves { Solves (record { model = model.now; changes = option_map (λ c. c.now) changes.entry }) (D.view desk.old) (D.view desk.new) result }
+    ensures files { (D.view desk.new).files ≡ (D.view desk.old).files }
+{
+    match problem_in(alloc, model, changes, desk) {
+        Ok(problem) => print_report(alloc, &problem, desk),
+        Err(status) => status,
     }
 }
 
@@ -129,7 +222,7 @@ pub fn quiet_main<D: Desk>(alloc: Global, words: &[String], desk: &mut D) -> Sta
     ensures { Runs (map string_bytes words.now) (D.view desk.old) (D.view desk.new) result }
 {
     match read_words(words) {
-        Ok(Command::Solve { model }) => solve(alloc, model, desk),
+        Ok(Command::Solve { model, changes }) => solve(alloc, model, changes, desk),
         Err(_) => told(desk, USAGE, Status::Usage),
     }
 }

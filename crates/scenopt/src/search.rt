@@ -1,66 +1,27 @@
 // The plain search: a list of open boxes, each closed or cut in two. It is the reference that is never tuned.
-ghost use Rattle.std.specs.Prelude.{◌≡◌, ◌≤◌, ◌<◌, ◌*◌, ◌^◌, ◌<ℤ◌, ◌≤ℤ◌, ◌*ℤ◌, [], length, All, IfOk, OnOk, MatchBool, MatchOption, unsigned_abs, true, false};
-ghost use Rattle.int_model.specs.Limits.{IsBound, IsEntry};
+ghost use Rattle.std.specs.Prelude.{◌≡◌, ◌≤◌, ◌<◌, ◌<ℤ◌, ◌≤ℤ◌, [], length, All, IfOk, OnOk, MatchBool, MatchOption, true, false};
+ghost use Rattle.int_model.specs.Limits.{IsBound};
 ghost use Rattle.int_model.specs.Boxes.{interval_at, is_empty, is_single};
 ghost use Rattle.int_model.specs.Programs.{AreTerms};
 ghost use Rattle.int_model.specs.Programs as programs;
 ghost use Rattle.int_model.specs.RowSums.{misses_ends};
 ghost use Rattle.int_model.specs.RowSums as spec;
-ghost use Rattle.scenopt.specs.Searches.{program_over, IsAsked, RightAnswer, IsValue, AnswerFits, HasNone, MissesNone, Keeps, HasHalves, Visits};
+ghost use Rattle.scen_report.specs.Reports.{Fits};
+ghost use Rattle.scenario_changes.specs.Answers.{RightAnswer};
+ghost use Rattle.scenario_changes.specs.Problems.{program_at};
+ghost use Rattle.scenario_changes.specs.Problems as problems;
+ghost use Rattle.scenopt.specs.Searches.{program_over, AreRight, HasNone, MissesNone, Keeps, HasHalves, Visits, Covers};
 
 use activity::{least, most};
-use int_model::{Ends, Model, Point, PointBox};
+use int_model::{Ends, Point, PointBox};
+use scenario_changes::{Answer, Answers, Problem};
 use std::alloc::{AllocError, Global};
-
-/// The answer to an integer program. The value is minimised.
-#[derive(Drop)]
-pub enum Answer {
-    /// No point is feasible.
-    Infeasible,
-    /// A feasible point that no feasible point betters, with its value.
-    Optimal { point: Point, value: i64 },
-}
-
-/// An integer program in the form that is minimised, but for its bounds: a model's rows with costs, a constant and
-/// the ends of each row.
-#[derive(Clone, Copy)]
-pub(crate) struct Asked<'p> {
-    pub(crate) model: &'p Model,
-    pub(crate) costs: &'p [i64],
-    pub(crate) constant: i64,
-    pub(crate) ends: &'p [Ends],
-}
 
 /// The best point so far.
 #[derive(Drop)]
 pub(crate) struct Best {
     point: Point,
     value: i64,
-}
-
-// A cost times a number of a point.
-fn product(cost: i64, number: i32) -> i64
-    requires cost { IsEntry cost }
-    requires number { IsBound number }
-    ensures value { result ≡ cost *ℤ number }
-    ensures limit { unsigned_abs result ≤ 10 ^ 15 }
-{
-    cost * i64::from(number)
-}
-
-// The value of a point.
-fn value(asked: &Asked<'_>, x: &[i32]) -> i64
-    requires asked { IsAsked asked.now }
-    requires columns { length x.now ≡ length asked.now.costs.now }
-    requires bounds { All IsBound x.now }
-    ensures value { result ≡ programs.value (program_over asked.now []) x.now }
-    ensures limit { IsValue result }
-{
-    let mut sum = 0;
-    for j in 0..asked.costs.len() {
-        sum += product(asked.costs[j], x[j]);
-    }
-    sum + asked.constant
 }
 
 // Whether a sum is above the end, where there is one.
@@ -99,15 +60,19 @@ fn misses(terms: &[(u32, i64)], ends: Ends, bounds: &PointBox) -> bool
     is_below(ends.lower, most)
 }
 
-// Whether some row shows that no point of the box is feasible.
-fn some_row_misses(asked: &Asked<'_>, bounds: &PointBox) -> bool
-    requires asked { IsAsked asked.now }
-    requires columns { length bounds.now ≡ length asked.now.costs.now }
-    ensures { MatchBool result (HasNone (program_over asked.now bounds.now)) (MissesNone (program_over asked.now bounds.now)) }
+// Whether some row shows that no point of the box is feasible in a scenario.
+fn some_row_misses(problem: &Problem, s: u32, bounds: &PointBox) -> bool
+    requires scenario { s < length (problems.problem problem.now).scenarios }
+    requires columns { length bounds.now ≡ length problem.now.model.columns }
+    ensures verdict { MatchBool result (HasNone (program_over problem.now s bounds.now)) (MissesNone (program_over problem.now s bounds.now)) }
+    ensures few { length bounds.now ≤ 1000 }
+    ensures shape { length (program_at (problems.problem problem.now) s).ends ≡ length (program_at (problems.problem problem.now) s).rows }
 {
-    for i in 0..asked.model.rows() {
-        let terms = asked.model.row(i).terms.as_slice();
-        if misses(terms, asked.ends[i as usize], bounds) {
+    let model = problem.model();
+    let ends = problem.ends(s);
+    for i in 0..model.rows() {
+        let terms = model.row(i).terms.as_slice();
+        if misses(terms, ends[i as usize], bounds) {
             return true;
         }
     }
@@ -133,16 +98,17 @@ fn wide_column(bounds: &PointBox) -> Option<u32>
 // Keeps a feasible point where no better one is kept.
 fn keep_better(
     alloc: Global,
-    asked: &Asked<'_>,
+    problem: &Problem,
+    s: u32,
     x: &[i32],
     best: &mut Option<Best>,
 ) -> Result<(), AllocError>
-    requires asked { IsAsked asked.now }
-    requires columns { length x.now ≡ length asked.now.costs.now }
+    requires scenario { s < length (problems.problem problem.now).scenarios }
+    requires columns { length x.now ≡ length problem.now.model.columns }
     requires bounds { All IsBound x.now }
-    ensures { OnOk result (Keeps x.now (programs.value (program_over asked.now []) x.now) best.old best.new) }
+    ensures { OnOk result (Keeps x.now (programs.value (program_at (problems.problem problem.now) s) x.now) best.old best.new) }
 {
-    let value = value(asked, x);
+    let value = problem.value(s, x);
     if let Some(kept) = best
         && kept.value <= value
     {
@@ -186,32 +152,37 @@ fn cut_in_two(
 // Closes a box, or puts its two parts into the list.
 fn visit(
     alloc: Global,
-    asked: &Asked<'_>,
+    problem: &Problem,
+    s: u32,
     bounds: &PointBox,
     boxes: &mut Vec<PointBox>,
     best: &mut Option<Best>,
 ) -> Result<(), AllocError>
-    requires asked { IsAsked asked.now }
-    requires columns { length bounds.now ≡ length asked.now.costs.now }
+    requires scenario { s < length (problems.problem problem.now).scenarios }
+    requires columns { length bounds.now ≡ length problem.now.model.columns }
     requires occupied { is_empty bounds.now ≡ false }
-    ensures { OnOk result (Visits (program_over asked.now bounds.now) boxes.old.items boxes.new.items best.old best.new) }
+    ensures { OnOk result (Visits (program_over problem.now s bounds.now) boxes.old.items boxes.new.items best.old best.new) }
 {
-    if some_row_misses(asked, bounds) {
+    if some_row_misses(problem, s, bounds) {
         return Ok(());
     }
     match wide_column(bounds) {
-        None => keep_better(alloc, asked, bounds.lows(), best)?,
+        None => keep_better(alloc, problem, s, bounds.lows(), best)?,
         Some(j) => cut_in_two(alloc, bounds, j, boxes)?,
     }
     Ok(())
 }
 
-/// The right answer to a program over its box of bounds.
-pub(crate) fn search(alloc: Global, asked: &Asked<'_>, root: PointBox) -> Result<Answer, AllocError>
-    requires asked { IsAsked asked.now }
-    requires columns { length root ≡ length asked.now.costs.now }
-    ensures right { IfOk result (RightAnswer (program_over asked.now root)) }
-    ensures fits { IfOk result (AnswerFits (length asked.now.costs.now)) }
+// The best point of a scenario in its box of bounds, with its value, where a point is feasible.
+fn search(
+    alloc: Global,
+    problem: &Problem,
+    s: u32,
+    root: PointBox,
+) -> Result<Option<Best>, AllocError>
+    requires scenario { s < length (problems.problem problem.now).scenarios }
+    requires columns { length root ≡ length problem.now.model.columns }
+    ensures { IfOk result (Covers (program_over problem.now s root) []) }
 {
     let mut boxes = Vec::new(alloc);
     let mut best = None;
@@ -219,13 +190,35 @@ pub(crate) fn search(alloc: Global, asked: &Asked<'_>, root: PointBox) -> Result
         boxes.push(root)?;
     }
     while let Some(bounds) = boxes.pop() {
-        visit(alloc, asked, &bounds, &mut boxes, &mut best)?;
+        visit(alloc, problem, s, &bounds, &mut boxes, &mut best)?;
     }
-    match best {
+    Ok(best)
+}
+
+/// The right answer to a scenario.
+pub(crate) fn answer_of(alloc: Global, problem: &Problem, s: u32) -> Result<Answer, AllocError>
+    requires { s < length (problems.problem problem.now).scenarios }
+    ensures right { IfOk result (RightAnswer (program_at (problems.problem problem.now) s)) }
+    ensures fits { IfOk result (Fits (length problem.now.model.columns)) }
+{
+    let root = PointBox::from_ends(alloc, problem.lows(s), problem.highs(s))?;
+    match search(alloc, problem, s, root)? {
         Some(best) => Ok(Answer::Optimal {
             point: best.point,
             value: best.value,
         }),
         None => Ok(Answer::Infeasible),
     }
+}
+
+/// The right answer to each scenario.
+pub(crate) fn answers_of(alloc: Global, problem: &Problem) -> Result<Answers, AllocError>
+    ensures right { IfOk result (AreRight (problems.problem problem.now)) }
+    ensures fits { IfOk result (All (Fits (length problem.now.model.columns))) }
+{
+    let mut answers = Vec::new(alloc);
+    for s in 0..problem.count() {
+        answers.push(answer_of(alloc, problem, s)?)?;
+    }
+    Ok(Answers::from_vec(answers))
 }

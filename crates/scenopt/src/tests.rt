@@ -61,6 +61,20 @@ fn solved(alloc: Global, text: &str) -> Result<(MemoryDesk, Status), AllocError>
     Ok((desk, status))
 }
 
+// The same with a file of changes.
+fn solved_with(
+    alloc: Global,
+    text: &str,
+    changes: &str,
+) -> Result<(MemoryDesk, Status), AllocError> {
+    let mut desk = MemoryDesk::new(alloc);
+    desk.add_file("m", text.as_bytes())?;
+    desk.add_file("c", changes.as_bytes())?;
+    let words = words_of(alloc, &["solve", "m", "c"])?;
+    let status = quiet_main(alloc, &words, &mut desk);
+    Ok((desk, status))
+}
+
 #[test]
 fn reports_the_worked_models(rt: HostRuntime) -> Result<(), Fail> {
     let alloc = rt.alloc();
@@ -102,6 +116,66 @@ fn reports_the_worked_models(rt: HostRuntime) -> Result<(), Fail> {
         assert_eq!(rt; desk.printed(), report.as_bytes(), "at {text}");
         assert_eq!(rt; desk.warned(), b"".as_slice(), "at {text}");
     }
+    Ok(())
+}
+
+#[test]
+fn reports_each_scenario(rt: HostRuntime) -> Result<(), Fail> {
+    let alloc = rt.alloc();
+    let m1 = edited(alloc, (0, ""), (0, ""))?;
+    let cases = [
+        (
+            "scenarios 4\nscenario 1\nrhs cap 2\nscenario 2\nobj x -5\nscenario 3\nlb x 3\n",
+            "ImpliedBinary 0\nNumScenarios 4\nScenarioNumber 0\nScenNName -\nStatus optimal\nScenNObjVal -7\nScenNObjBound -7\nScenNX x 1\nScenNX y 2\nScenarioNumber 1\nScenNName -\nStatus optimal\nScenNObjVal -4\nScenNObjBound -4\nScenNX x 0\nScenNX y 2\nScenarioNumber 2\nScenNName -\nStatus optimal\nScenNObjVal -10\nScenNObjBound -10\nScenNX x 2\nScenNX y 0\nScenarioNumber 3\nScenNName -\nStatus infeasible\nScenNObjVal inf\nScenNObjBound inf\n",
+        ),
+        (
+            "scenarios 1\nname wide\nrhs cap inf\n",
+            "ImpliedBinary 0\nNumScenarios 1\nScenarioNumber 0\nScenNName wide\nStatus optimal\nScenNObjVal -15\nScenNObjBound -15\nScenNX x 3\nScenNX y 3\n",
+        ),
+        (
+            "scenarios 1\nlb x 2\nub x 1\n",
+            "ImpliedBinary 0\nNumScenarios 1\nScenarioNumber 0\nScenNName -\nStatus infeasible\nScenNObjVal inf\nScenNObjBound inf\n",
+        ),
+        (
+            "scenarios 1\nub x 0\nub x undefined\n",
+            "ImpliedBinary 0\nNumScenarios 1\nScenarioNumber 0\nScenNName -\nStatus optimal\nScenNObjVal -7\nScenNObjBound -7\nScenNX x 1\nScenNX y 2\n",
+        ),
+        ("", M1_REPORT),
+        ("* no scenarios\nscenarios 0\n", M1_REPORT),
+    ];
+    for (changes, report) in cases {
+        let (desk, status) = solved_with(alloc, m1.as_str(), changes)?;
+        assert_eq!(rt; status, Status::Done, "at {changes}");
+        assert_eq!(rt; desk.printed(), report.as_bytes(), "at {changes}");
+        assert_eq!(rt; desk.warned(), b"".as_slice(), "at {changes}");
+    }
+    Ok(())
+}
+
+#[test]
+fn refuses_changes_at_their_first_offence(rt: HostRuntime) -> Result<(), Fail> {
+    let alloc = rt.alloc();
+    let m1 = edited(alloc, (0, ""), (0, ""))?;
+    let cases = [
+        ("scenarios 65\n", "changes line 1: TooMany\n"),
+        ("scenario 0\n", "changes line 1: Header\n"),
+        (
+            "scenarios 4\nscenario 1\nrhs cap",
+            "changes line 3: Fields\n",
+        ),
+        ("scenarios 1\nobj w 1\n", "changes line 2: UnknownColumn\n"),
+        ("scenarios 1\nrhs cost 1\n", "changes line 2: UnknownRow\n"),
+    ];
+    for (changes, message) in cases {
+        let (desk, status) = solved_with(alloc, m1.as_str(), changes)?;
+        assert_eq!(rt; status, Status::ChangesRefused, "at {message}");
+        assert_eq!(rt; desk.warned(), message.as_bytes(), "at {message}");
+        assert_eq!(rt; desk.printed(), b"".as_slice(), "at {message}");
+    }
+    // A model that is refused comes first.
+    let (desk, status) = solved_with(alloc, "", "scenarios 65\n")?;
+    assert_eq!(rt; status, Status::ModelRefused);
+    assert_eq!(rt; desk.warned(), b"model line 1: NoEnd\n".as_slice());
     Ok(())
 }
 
@@ -191,6 +265,8 @@ fn refuses_what_is_no_command(rt: HostRuntime) -> Result<(), Fail> {
     assert!(rt; are_no_command(alloc, &["solve", "m"])?);
     assert!(rt; are_no_command(alloc, &["solve", "-", "-"])?);
     assert!(rt; are_no_command(alloc, &["solve", "", "-"])?);
+    assert!(rt; are_no_command(alloc, &["solve", "m", ""])?);
+    assert!(rt; are_no_command(alloc, &["solve", "m", "-c"])?);
     assert!(rt; are_no_command(alloc, &["Solve", "m", "-"])?);
     assert!(rt; are_no_command(alloc, &["--help"])?);
     assert!(rt; are_no_command(alloc, &["solve", "m", "-", "--workers", "0"])?);
@@ -205,13 +281,15 @@ fn tells_of_faults(rt: HostRuntime) -> Result<(), Fail> {
     let m1 = edited(alloc, (0, ""), (0, ""))?;
     let cases = [
         (1, 0, Status::ReadFault, "", "cannot read model\n"),
-        (2, 4, Status::WriteFault, "Impl", "cannot write output\n"),
+        (2, 0, Status::ReadFault, "", "cannot read changes\n"),
+        (3, 4, Status::WriteFault, "Impl", "cannot write output\n"),
     ];
     for (call, kept, wanted, printed, warned) in cases {
         let mut desk = MemoryDesk::new(alloc);
         desk.add_file("m", m1.as_bytes())?;
+        desk.add_file("c", b"scenarios 1\n")?;
         desk.fail(call, kept)?;
-        let words = words_of(alloc, &["solve", "m", "-"])?;
+        let words = words_of(alloc, &["solve", "m", "c"])?;
         assert_eq!(rt;
             quiet_main(alloc, &words, &mut desk),
             wanted,

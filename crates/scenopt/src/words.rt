@@ -1,14 +1,17 @@
 // The command that the words of a command line are.
-ghost use Rattle.std.specs.Prelude.{◌≡◌, map, string_bytes};
-ghost use Rattle.scenopt.specs.Words.{IsCommand, is_file_name};
+ghost use Rattle.std.specs.Prelude.{◌≡◌, ℕ, List, Option, map, string_bytes, MatchResult, option_map};
+ghost use Rattle.scenopt.specs.Words.{IsCommand, is_file_name, IsChangesWord};
 
 use thiserror::Error;
 
 /// What the program is asked to do.
 #[derive(Clone, Copy, Debug, PartialEq, Eq)]
 pub enum Command<'w> {
-    /// Solve the model in a file, by itself.
-    Solve { model: &'w str },
+    /// Solve each scenario that a file makes of the model in another, or without changes the model by itself.
+    Solve {
+        model: &'w str,
+        changes: Option<&'w str>,
+    },
 }
 
 /// The words are no command.
@@ -23,6 +26,19 @@ fn names_file(word: &str) -> bool
     !word.is_empty() && !word.starts_with("-")
 }
 
+// What a word means that stands for changes: a file, or none.
+fn read_changes_word(word: &str) -> Result<Option<&str>, UsageError>
+    ensures { MatchResult result (λ changes. IsChangesWord word.now (option_map (λ c. c.now) changes)) (λ e. (name : Option (List ℕ)) → IsChangesWord word.now name → ⊥) }
+{
+    if word == "-" {
+        return Ok(None);
+    }
+    if names_file(word) {
+        return Ok(Some(word));
+    }
+    Err(UsageError)
+}
+
 /// The command that the words are; the program's name is not among them.
 pub fn read_words(words: &[String]) -> Result<Command<'_>, UsageError>
     ensures { IsCommand (map string_bytes words.now) result }
@@ -30,9 +46,10 @@ pub fn read_words(words: &[String]) -> Result<Command<'_>, UsageError>
     let [verb, model, changes] = words else {
         return Err(UsageError);
     };
-    let (verb, model, changes) = (verb.as_str(), model.as_str(), changes.as_str());
-    if verb == "solve" && names_file(model) && changes == "-" {
-        Ok(Command::Solve { model })
+    let (verb, model) = (verb.as_str(), model.as_str());
+    if verb == "solve" && names_file(model) {
+        let changes = read_changes_word(changes.as_str())?;
+        Ok(Command::Solve { model, changes })
     } else {
         Err(UsageError)
     }

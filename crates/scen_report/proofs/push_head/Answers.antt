@@ -8,5 +8,5 @@ pub returns : goal.returns
 unfolding head_lines
 returns c =
     appended_twice _ _ _ _ _
-      (line_same _ _ _ _ _ c.in_ok-push_count.ensures (ap decimal (c.implied.ensures.value ∙ ap (λ m. m.implied) c.model.ensures)))
-      (line_same _ _ _ _ _ c.in_ok-push_count-2.ensures (ap decimal c.num_scenarios.ensures))
+    (line_same _ _ _ _ _ c.in_ok-push_count.ensures (ap decimal (c.implied.ensures.value ∙ ap (λ m. m.implied) c.model.ensures)))
+    (line_same _ _ _ _ _ c.in_ok-push_count-2.ensures (ap decimal c.num_scenarios.ensures))

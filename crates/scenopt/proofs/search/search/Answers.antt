@@ -9,7 +9,7 @@ use Rattle.scenopt.proofs.search.search.Goals.{then-not-is_empty+in_ok-push, els
 
 pub loop-bounds-init : goal.loop-bounds-init
 loop-bounds-init c =
-    let p = program_over c.args.asked.now c.args.root in
+    let p = program_over c.args.problem.now c.args.s c.args.root in
     elim c.if-not-is_empty.branch [
       | then-not-is_empty+in_ok-push w ↦
           let items : c.if-not-is_empty.boxes.items ≡ c.args.root ∷ [] = search rules in
@@ -21,11 +21,5 @@ loop-bounds-init c =
 
 pub loop-bounds-preserved : goal.loop-bounds-preserved
 loop-bounds-preserved c =
-    let p = program_over c.args.asked.now c.args.root in
+    let p = program_over c.args.problem.now c.args.s c.args.root in
     covers_more p _ _ _ _ _ (subst (λ bs. Covers p bs c.loop-bounds.best) c.in-Some.ensures.items c.loop-bounds.invariant) c.in_ok-visit.ensures
-
-pub returns-in-Some-best-clause-fits : goal.returns-in-Some-best-clause-fits
-returns-in-Some-best-clause-fits c =
-    let k = kept_fits (program_over c.args.asked.now c.args.root) c.loop-bounds.best c.in-Some-best.best c.loop-bounds.invariant.kept c.in-Some-best.is in
-    let fits : FitsSigned w64 c.in-Some-best.best.value = omega (arith, ints, k.1) in
-    (k.0 ∙ c.requires.columns, rw (to_z-of_z w64 c.in-Some-best.best.value fits) k.1)

@@ -1,16 +1,17 @@
-use Rattle.std.proofs.Common.{true, false, refl, sym, ap, ◌∙◌, below_more, get_or, None}
-use Rattle.int_model.specs.Programs.{Terms}
-use Rattle.int_model.specs.RowSums.{misses_ends}
+use Rattle.std.proofs.Common.{rules, below_more}
 use Rattle.scenopt.specs.Searches.{program_over}
-use Rattle.scenopt.proofs.SearchLemmas.{missed_none, row_misses_by}
+use Rattle.scenopt.proofs.SearchLemmas.{missed_none, row_verdict, scenario_shape}
 use Rattle.scenopt.proofs.search.some_row_misses.Goals as goal
 
 pub returns-then-misses : goal.returns-then-misses
-returns-then-misses c =
-    let p = program_over c.args.asked.now c.args.bounds.now in
-    missed_none p c.loop-i.i (row_misses_by p c.args.asked.now.model.now.rows c.loop-i.i c.row.result.now true refl c.row.ensures.value (sym c.if-misses.true ∙ c.misses.ensures ∙ ap (λ (t : Terms). misses_ends t (get_or c.args.asked.now.ends.now c.loop-i.i (record { lower = None; upper = None })) c.args.bounds.now) c.as_slice-terms.ensures))
+returns-then-misses c = record {
+  verdict = missed_none (program_over c.args.problem.now c.args.s c.args.bounds.now) c.loop-i.i (row_verdict c.args.problem.now c.args.s c.args.bounds.now _ _ c.loop-i.i _ _ _ c.requires.scenario c.model-model.ensures c.ends-ends.ensures.value c.row.ensures.value c.as_slice-terms.ensures c.if-misses.ensures);
+  few = search rules;
+  shape = scenario_shape c.args.problem.now c.args.s _ c.requires.scenario c.ends-ends.ensures.value c.ends-ends.ensures.count;
+}
+
+pub returns-clause-shape : goal.returns-clause-shape
+returns-clause-shape c = scenario_shape c.args.problem.now c.args.s _ c.requires.scenario c.ends-ends.ensures.value c.ends-ends.ensures.count
 
 pub loop-i-preserved : goal.loop-i-preserved
-loop-i-preserved c =
-    let p = program_over c.args.asked.now c.args.bounds.now in
-    below_more _ _ c.loop-i.invariant (row_misses_by p c.args.asked.now.model.now.rows c.loop-i.i c.row.result.now false refl c.row.ensures.value (sym c.if-misses.false ∙ c.misses.ensures ∙ ap (λ (t : Terms). misses_ends t (get_or c.args.asked.now.ends.now c.loop-i.i (record { lower = None; upper = None })) c.args.bounds.now) c.as_slice-terms.ensures))
+loop-i-preserved c = below_more _ _ c.loop-i.invariant (row_verdict c.args.problem.now c.args.s c.args.bounds.now _ _ c.loop-i.i _ _ _ c.requires.scenario c.model-model.ensures c.ends-ends.ensures.value c.row.ensures.value c.as_slice-terms.ensures c.if-misses.ensures)

@@ -4,4 +4,4 @@ use Rattle.scenopt.specs.Searches.{program_over}
 use Rattle.scenopt.proofs.search.some_row_misses.Given as goal
 
 abbrev pub invariant-loop-i : goal.invariant-loop-i
-invariant-loop-i l = (k : ℕ) → k < l.i → row_misses (program_over l.asked l.bounds) k l.bounds ≡ false
+invariant-loop-i l = (k : ℕ) → k < l.i → row_misses (program_over l.problem l.s l.bounds) k l.bounds ≡ false

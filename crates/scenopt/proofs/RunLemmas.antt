@@ -1,0 +1,139 @@
+-- How the steps of a run add up.
+use Rattle.std.proofs.Common.{◌≡◌, ◌∙◌, ap, sym, subst, ℕ, suc, ◌+◌, ◌≤◌, List, [], ◌∷◌, ◌++◌, length, take, Option, Some, None, option_map, Result, Ok, Err, Vec, ◌⊎◌, inl, inr, refl, arith, append_assoc}
+use Rattle.std.proofs.lemmas.List.{take_all, append-nil}
+use Rattle.desk.specs.Causes.{Rose}
+use Rattle.desk.specs.Desk.{View, Files}
+use Rattle.scenopt.specs.Messages.{unreadable, out_of_memory}
+use Rattle.std.specs.declared.alloc.Global.{Global}
+use Rattle.std.specs.declared.alloc.AllocError.{AllocError}
+use Rattle.std.specs.Result.{IfOk, IfErr, IsErrAnd, MatchResult}
+use Rattle.int_model.specs.Models.{IntegerModel}
+use Rattle.scenario_changes.specs.Changes.{Change}
+use Rattle.scenario_changes.specs.Problems.{Scenarios}
+use Rattle.scenopt.specs.declared.input.Input.TheVariants.{Model, Changes}
+use Rattle.scenopt.specs.Words.{Inputs, IsSolve}
+use Rattle.scenopt.proofs.WordLemmas.{same_inputs}
+use Rattle.scenopt.specs.Runs.{Runs, Solves, HasModel, HasChanges, HasProblem, IsChangesRefusal, IsRefusal, StopsAtInput, names_of, names_to, Adds, AddsFront, AddsNames, Tells, Refuses, Misses, Lacks, Stops, Stays, Fetches, OnlyWarns, refused}
+use Rattle.scenopt.specs.declared.input.Input.{Input}
+use Rattle.scenopt.specs.declared.run.Status.{Status}
+
+-- a count that rose since a later moment rose since an earlier one
+rose_since : (a b c : ℕ) → a ≤ b → Rose b c → Rose a c
+rose_since a b c h r = omega (arith, h, r)
+
+-- ---- texts
+
+adds_since : (old mid new : Option (List ℕ)) (text : List ℕ) → mid ≡ old → Adds mid new text → Adds old new text
+adds_since old mid new text e a = a ∙ ap (option_map (λ told. told ++ text)) e
+
+pub front_since : (old mid new : Option (List ℕ)) (text : List ℕ) → mid ≡ old → AddsFront mid new text → AddsFront old new text
+front_since old mid new text e a = (a.0, a.1 ∙ ap (option_map (λ told. told ++ take a.0 text)) e)
+
+-- ---- names
+
+pub names_none : (v : Option (List (List ℕ))) → v ≡ option_map (λ told. told ++ []) v
+names_none None = refl
+names_none (Some told) = ap Some (sym (append-nil told))
+
+names_after-lists : (old : Option (List (List ℕ))) (names more : List (List ℕ)) → option_map (λ told. told ++ more) (option_map (λ told. told ++ names) old) ≡ option_map (λ told. told ++ (names ++ more)) old
+names_after-lists None names more = refl
+names_after-lists (Some told) names more = ap Some (append_assoc told names more)
+
+names_after : (old mid new : View) (names more : List (List ℕ)) → AddsNames old mid names → AddsNames mid new more → AddsNames old new (names ++ more)
+names_after old mid new names more a b = b ∙ ap (option_map (λ told. told ++ more)) a ∙ names_after-lists old.fetched names more
+
+names_kept : (old mid new : View) (names : List (List ℕ)) → AddsNames old mid names → new.fetched ≡ mid.fetched → AddsNames old new names
+names_kept old mid new names a e = e ∙ a
+
+-- ---- steps
+
+pub tells_since : (s : Status) (message : List ℕ) (old mid new : View) (r : Status) → mid.warned ≡ old.warned → old.write_faults ≤ mid.write_faults → Tells s message mid new r → Tells s message old new r
+tells_since s message old mid new r w f (inl told) = inl (told.0, adds_since old.warned mid.warned new.warned message w told.1)
+tells_since s message old mid new r w f (inr (inl failed)) = inr (inl (failed.0, rose_since old.write_faults mid.write_faults new.write_faults f failed.1, front_since old.warned mid.warned new.warned message w failed.2))
+tells_since s message old mid new r w f (inr (inr lost)) = inr (inr (lost.0, lost.1 ∙ w))
+
+-- a text that was fetched is refused
+pub stops_refused : (input : Input) (IsWhy : List ℕ → Type 0) (names : List (List ℕ)) (old mid new : View) (message : List ℕ) (r : Status) → Fetches names old mid → Stays old mid → OnlyWarns mid new → IsWhy message → Tells (refused input) message mid new r → Stops input IsWhy names old new r
+stops_refused input IsWhy names old mid new message r f s w why t =
+    inl (names_kept old mid new names f.asked w.fetched, inl (message, why, tells_since (refused input) message old mid new r f.warned s.write_faults t))
+
+-- memory was wanting once these names were asked for
+pub stops_lacking : (input : Input) (IsWhy : List ℕ → Type 0) (names : List (List ℕ)) (old mid new : View) (r : Status) → Fetches names old mid → OnlyWarns mid new → Lacks mid new r → Stops input IsWhy names old new r
+stops_lacking input IsWhy names old mid new r f w l =
+    inr (record { status = l.status; warned = front_since old.warned mid.warned new.warned out_of_memory f.warned l.warned }, (length names, names_kept old mid new (take (length names) names) (rw (take_all (length names) names (omega arith)) f.asked) w.fetched))
+
+-- another reason of the same message
+pub stops_more : (input : Input) (P Q : List ℕ → Type 0) (names : List (List ℕ)) (old new : View) (r : Status) → ((message : List ℕ) → P message → Q message) → Stops input P names old new r → Stops input Q names old new r
+stops_more input P Q names old new r h (inl (asked, inl (message, why, tells))) = inl (asked, inl (message, h message why, tells))
+stops_more input P Q names old new r h (inl (asked, inr misses)) = inl (asked, inr misses)
+stops_more input P Q names old new r h (inr lacks) = inr lacks
+
+taken_after : (names more : List (List ℕ)) (n : ℕ) → take (length names + n) (names ++ more) ≡ names ++ take n more
+taken_after [] more n =
+    let none : 0 + n ≡ n = omega arith in
+    ap (λ k. take k more) none
+taken_after (name ∷ names) more n =
+    let one : suc (length names) + n ≡ suc (length names + n) = omega arith in
+    ap (λ k. take k (name ∷ (names ++ more))) one ∙ ap (λ l. name ∷ l) (taken_after names more n)
+
+-- a stop behind names that were asked for before
+pub stops_after : (input : Input) (IsWhy : List ℕ → Type 0) (names more : List (List ℕ)) (old mid new : View) (r : Status) → Fetches names old mid → Stays old mid → Stops input IsWhy more mid new r → Stops input IsWhy (names ++ more) old new r
+stops_after input IsWhy names more old mid new r f s (inl (asked, inl (message, why, tells))) =
+    inl (names_after old mid new names more f.asked asked, inl (message, why, tells_since (refused input) message old mid new r f.warned s.write_faults tells))
+stops_after input IsWhy names more old mid new r f s (inl (asked, inr misses)) =
+    inl (names_after old mid new names more f.asked asked, inr (record { status = misses.status; rose = rose_since old.fetch_faults mid.fetch_faults new.fetch_faults s.fetch_faults misses.rose; warned = front_since old.warned mid.warned new.warned (unreadable input) f.warned misses.warned }))
+stops_after input IsWhy names more old mid new r f s (inr (lacks, (n, asked))) =
+    inr (record { status = lacks.status; warned = front_since old.warned mid.warned new.warned out_of_memory f.warned lacks.warned }, (length names + n, rw (taken_after names more n) (names_after old mid new names (take n more) f.asked asked)))
+
+pub fetches_after : (names more : List (List ℕ)) (old mid new : View) → Fetches names old mid → Fetches more mid new → Fetches (names ++ more) old new
+fetches_after names more old mid new f g = record { asked = names_after old mid new names more f.asked g.asked; warned = g.warned ∙ f.warned }
+
+pub stays_after : (old mid new : View) → Stays old mid → Stays mid new → Stays old new
+stays_after old mid new s t = record {
+  files = t.files ∙ s.files;
+  printed = t.printed ∙ s.printed;
+  fetch_faults = omega (arith, s.fetch_faults, t.fetch_faults);
+  write_faults = omega (arith, s.write_faults, t.write_faults);
+}
+
+pub warns_stays : (old new : View) → OnlyWarns old new → Stays old new
+warns_stays old new w = record { files = w.files; printed = w.printed; fetch_faults = omega (arith, w.fetch_faults); write_faults = w.write_faults }
+
+-- a refusal whose message perhaps found no memory
+pub refused_by : (input : Input) (IsWhy : List ℕ → Type 0) (names : List (List ℕ)) (old mid new : View) (message : Result (Vec ℕ Global) AllocError) (text : List ℕ) (r : Status) → Fetches names old mid → Stays old mid → OnlyWarns mid new → IsWhy text → IfOk message (λ m. m.items ≡ text) → MatchResult message (λ m. Tells (refused input) m.items mid new r) (λ _. Lacks mid new r) → Stops input IsWhy names old new r
+refused_by input IsWhy names old mid new (Ok m) text r f s w why is tells = stops_refused input IsWhy names old mid new text r f s w why (subst (λ (t : List ℕ). Tells (refused input) t mid new r) is tells)
+refused_by input IsWhy names old mid new (Err e) text r f s w why is lacks = stops_lacking input IsWhy names old mid new r f w lacks
+
+-- ---- changes
+
+pub named_changes : (files : Option Files) (name : Option (List ℕ)) (n : List ℕ) (m : IntegerModel) (old new : View) (r : Status) → name ≡ Some n → Stops Changes (IsChangesRefusal files (Some n) m) (n ∷ []) old new r → Stops Changes (IsChangesRefusal files name m) (names_of name) old new r
+named_changes files name n m old new r e s = subst (λ (o : Option (List ℕ)). Stops Changes (IsChangesRefusal files o m) (names_of o) old new r) (sym e) s
+
+-- the changes of a command stopped it, behind a model that was read
+pub stops_at_changes : (inputs : Inputs) (m : IntegerModel) (old mid new : View) (r : Status) → HasModel old.files inputs.model m → Fetches (inputs.model ∷ []) old mid → Stays old mid → Stops Changes (IsChangesRefusal mid.files inputs.changes m) (names_of inputs.changes) mid new r → StopsAtInput inputs old new r
+stops_at_changes inputs m old mid new r has f s stop =
+    (Changes, stops_more Changes (IsChangesRefusal mid.files inputs.changes m) (IsRefusal old.files inputs Changes) (names_to inputs Changes) old new r (λ message why. (m, has, subst (λ (files : Option Files). IsChangesRefusal files inputs.changes m message) s.files why)) (stops_after Changes (IsChangesRefusal mid.files inputs.changes m) (inputs.model ∷ []) (names_of inputs.changes) old mid new r f s stop))
+
+-- the problem of a model and changes that were read
+pub posed : (inputs : Inputs) (m : IntegerModel) (scenarios : List Change) (p : Scenarios) (old mid new : View) → HasModel old.files inputs.model m → Fetches (inputs.model ∷ []) old mid → Stays old mid → HasChanges mid.files inputs.changes m scenarios → Fetches (names_of inputs.changes) mid new → p ≡ record { model = m; changes = scenarios } → HasProblem old.files inputs p × Fetches (names_to inputs Changes) old new
+posed inputs m scenarios p old mid new has f s changes g is =
+    let own : HasChanges old.files inputs.changes m scenarios = subst (λ (files : Option Files). HasChanges files inputs.changes m scenarios) s.files changes in
+    (subst (λ (q : Scenarios). HasProblem old.files inputs q) (sym is) (record { model = has; changes = own }), fetches_after (inputs.model ∷ []) (names_of inputs.changes) old mid new f g)
+
+-- memory was wanting once both texts were read
+pub lacks_problem : (inputs : Inputs) (old mid next new : View) (r : Status) → Fetches (inputs.model ∷ []) old mid → Fetches (names_of inputs.changes) mid next → OnlyWarns next new → Lacks next new r → StopsAtInput inputs old new r
+lacks_problem inputs old mid next new r f g w l =
+    (Changes, stops_lacking Changes (IsRefusal old.files inputs Changes) (names_to inputs Changes) old next new r (fetches_after (inputs.model ∷ []) (names_of inputs.changes) old mid next f g) w l)
+
+-- what an error of this status means
+pub err_as : {T : Type 0} (r : Result T Status) (s : Status) (P : Status → Type 0) → IsErrAnd r (λ t. t ≡ s) → P s → IfErr r P
+err_as (Ok t) s P e p = tt
+err_as (Err t) s P e p = subst P (sym e) p
+
+-- the run of the command that the words are
+pub runs_solve : (words : List (List ℕ)) (inputs : Inputs) (old new : View) (r : Status) → IsSolve words inputs → Solves inputs old new r → new.files ≡ old.files → Runs words old new r
+runs_solve words inputs old new r is s files = record {
+  solve = λ others t. subst (λ (i : Inputs). Solves i old new r) (same_inputs words inputs others is t) s;
+  no_command = λ none. absurd (none inputs is);
+  files = files;
+}
