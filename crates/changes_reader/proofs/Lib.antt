@@ -1,3 +1,5 @@
+mod ChangesExamples
+pub mod NameLaws
 pub mod TableLemmas
 pub mod LineLemmas
 pub mod Runs

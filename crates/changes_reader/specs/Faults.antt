@@ -9,7 +9,7 @@ use Rattle.changes_reader.specs.declared.ChangesKind.TheVariants as kind
 use Rattle.changes_reader.specs.declared.fault.Fault.{Fault}
 use Rattle.changes_reader.specs.declared.fault.Fault.TheVariants.{Refused, Memory}
 
--- the fault of a line whose setting was refused
+-- the fault of a line whose setting was refused; a field that can't be a name is too long for one
 abbrev pub fault_of : ChangeError → Fault
 fault_of NoScenario = Refused kind.NoScenario
 fault_of TooMany = Refused kind.TooMany

@@ -58,7 +58,7 @@ words = codes "scenarios" ∷ codes "scenario" ∷ codes "name" ∷ codes "obj" 
 abbrev pub field_count : List ℕ → ℕ
 field_count word = if is_one_of (codes "scenarios" ∷ codes "scenario" ∷ codes "name" ∷ []) word then 2 else 3
 
--- a line of scenarios that isn't the first, or a first line that is none
+-- a line `scenarios` that isn't the first, or a first line that is another
 abbrev pub is_misplaced : Bool → List ℕ → Bool
 is_misplaced first word = if first then not (bytes_eq word (codes "scenarios")) else bytes_eq word (codes "scenarios")
 

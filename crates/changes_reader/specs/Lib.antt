@@ -7,3 +7,4 @@ pub mod Faults
 pub mod Tables
 pub mod Words
 pub mod Takings
+pub mod Laws

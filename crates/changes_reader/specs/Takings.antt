@@ -23,7 +23,8 @@ taken_words m c word one two =
 abbrev pub taken : IntegerModel → ChangeSet → List (List ℕ) → ChangeSet
 taken m c fields = taken_words m c (slice_index_or fields 0 []) (slice_index_or fields 1 []) (slice_index_or fields 2 [])
 
--- a line of some kind is taken from old to new, or refused with that kind; want of memory may come at any time
+-- a line without a kind makes the wanted changes, and one with a kind is refused with it; want of memory may come
+-- at any time
 abbrev pub Takes : Option ChangesKind → ChangeSet → ChangeSet → Result (Unit {0}) Fault → Type 0
 Takes kind new wanted (Ok _) = (kind ≡ None) × (new ≡ wanted)
 Takes kind new wanted (Err (Refused k)) = kind ≡ Some k

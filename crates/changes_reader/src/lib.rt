@@ -10,6 +10,7 @@ ghost use Rattle.changes_reader.specs.Readings.{IsReading};
 ghost use Rattle.changes_reader.specs.declared.ChangesError.TheVariants as refused;
 
 mod fault;
+pub mod laws;
 mod line;
 mod tables;
 mod value;
@@ -70,6 +71,9 @@ impl From<AllocError> for ChangesError {
     }
 }
 
+/// The greatest length of a text in bytes.
+pub const MAX_BYTES: usize = 16_777_216;
+
 /// The changes that a text of at most 16,777,216 bytes makes of a model, or the first line that offends.
 ///
 /// For each scenario, attribute and name the last setting in the text counts. The scenario that the text selected
@@ -96,3 +100,6 @@ pub fn read_changes(alloc: Global, model: &Model, bytes: &[u8]) -> Result<Change
     }
     Ok(changes)
 }
+
+#[cfg(test)]
+mod tests;

@@ -1,5 +1,5 @@
 // How a line is taken.
-ghost use Rattle.std.specs.Prelude.{◌≡◌, ◌<◌, ◌^◌, length, map, nat_eq, All, IfSome, IfNone, IfOk, IfErr, Some, None, false, unwrap_or};
+ghost use Rattle.std.specs.Prelude.{◌≡◌, ◌<◌, ◌^◌, length, map, All, IfSome, IfNone, IfOk, IfErr, Some, None, false, unwrap_or};
 ghost use Rattle.scenario_changes.specs.Changes.{Fits, shape_of, with_number, with_cost, with_low, with_high, with_rhs, with_name};
 ghost use Rattle.changes_reader.specs.Names.{column_names, row_names, number_named};
 ghost use Rattle.changes_reader.specs.Words.{text_of, words, is_one_of, IsField};
@@ -66,26 +66,15 @@ fn take_name(changes: &mut Changes, name: &[u8]) -> Result<(), Fault>
     Ok(())
 }
 
-// The number of a column that a setting names, where there is a scenario to set.
-fn column_of(tables: &Tables<'_>, changes: &Changes, name: &[u8]) -> Result<u32, ChangesKind>
-    ensures ok { IfOk result (λ k. (nat_eq (length changes.now.scenarios) 0 ≡ false) × (number_named (column_names tables.now.model.now) name.now ≡ Some k)) }
-    ensures err { IfErr result (λ kind. place_kind ChangesKind.UnknownColumn (length changes.now.scenarios) (number_named (column_names tables.now.model.now) name.now) ≡ Some kind) }
+// The number of the column or row that a setting names, where there is a scenario to set.
+fn placed(count: u32, place: Option<u32>, unknown: ChangesKind) -> Result<u32, ChangesKind>
+    ensures ok { IfOk result (λ k. (place_kind unknown count place ≡ None) × (place ≡ Some k)) }
+    ensures err { IfErr result (λ kind. place_kind unknown count place ≡ Some kind) }
 {
-    if changes.num_scenarios() == 0 {
+    if count == 0 {
         return Err(ChangesKind::NoScenario);
     }
-    tables.column(name).ok_or(ChangesKind::UnknownColumn)
-}
-
-// The number of a row that a setting names, where there is a scenario to set.
-fn row_of(tables: &Tables<'_>, changes: &Changes, name: &[u8]) -> Result<u32, ChangesKind>
-    ensures ok { IfOk result (λ k. (nat_eq (length changes.now.scenarios) 0 ≡ false) × (number_named (row_names tables.now.model.now) name.now ≡ Some k)) }
-    ensures err { IfErr result (λ kind. place_kind ChangesKind.UnknownRow (length changes.now.scenarios) (number_named (row_names tables.now.model.now) name.now) ≡ Some kind) }
-{
-    if changes.num_scenarios() == 0 {
-        return Err(ChangesKind::NoScenario);
-    }
-    tables.row(name).ok_or(ChangesKind::UnknownRow)
+    place.ok_or(unknown)
 }
 
 fn take_cost(
@@ -97,7 +86,11 @@ fn take_cost(
     requires { Fits changes.old tables.now.model.now }
     ensures { Takes (column_kind (10 ^ 9) (length changes.old.scenarios) (number_named (column_names tables.now.model.now) name.now) (value.value_of text.now)) changes.new (with_cost changes.old (unwrap_or (number_named (column_names tables.now.model.now) name.now) 0) (value.number_set text.now)) result }
 {
-    let column = column_of(tables, changes, name)?;
+    let column = placed(
+        changes.num_scenarios(),
+        tables.column(name),
+        ChangesKind::UnknownColumn,
+    )?;
     let value = value_of(text)?;
     changes.set_obj(column, value)?;
     Ok(())
@@ -112,7 +105,11 @@ fn take_low(
     requires { Fits changes.old tables.now.model.now }
     ensures { Takes (column_kind (10 ^ 6) (length changes.old.scenarios) (number_named (column_names tables.now.model.now) name.now) (value.value_of text.now)) changes.new (with_low changes.old (unwrap_or (number_named (column_names tables.now.model.now) name.now) 0) (value.number_set text.now)) result }
 {
-    let column = column_of(tables, changes, name)?;
+    let column = placed(
+        changes.num_scenarios(),
+        tables.column(name),
+        ChangesKind::UnknownColumn,
+    )?;
     let value = value_of(text)?;
     changes.set_lb(column, value)?;
     Ok(())
@@ -127,7 +124,11 @@ fn take_high(
     requires { Fits changes.old tables.now.model.now }
     ensures { Takes (column_kind (10 ^ 6) (length changes.old.scenarios) (number_named (column_names tables.now.model.now) name.now) (value.value_of text.now)) changes.new (with_high changes.old (unwrap_or (number_named (column_names tables.now.model.now) name.now) 0) (value.number_set text.now)) result }
 {
-    let column = column_of(tables, changes, name)?;
+    let column = placed(
+        changes.num_scenarios(),
+        tables.column(name),
+        ChangesKind::UnknownColumn,
+    )?;
     let value = value_of(text)?;
     changes.set_ub(column, value)?;
     Ok(())
@@ -142,7 +143,11 @@ fn take_rhs(
     requires { Fits changes.old tables.now.model.now }
     ensures { Takes (row_kind (map shape_of tables.now.model.now.rows) (length changes.old.scenarios) (number_named (row_names tables.now.model.now) name.now) (value.rhs_of text.now)) changes.new (with_rhs changes.old (unwrap_or (number_named (row_names tables.now.model.now) name.now) 0) (value.side_set text.now)) result }
 {
-    let row = row_of(tables, changes, name)?;
+    let row = placed(
+        changes.num_scenarios(),
+        tables.row(name),
+        ChangesKind::UnknownRow,
+    )?;
     let value = rhs_of(text)?;
     changes.set_rhs(row, value)?;
     Ok(())
