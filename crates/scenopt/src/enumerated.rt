@@ -17,18 +17,18 @@ struct Side {
 
 fn sides() -> [Side; 8] {
     [
-        side(RowSense::L, 4, None, i64::MIN, 4),
-        side(RowSense::L, -5, None, i64::MIN, -5),
-        side(RowSense::G, -1, None, -1, i64::MAX),
-        side(RowSense::E, 2, None, 2, 2),
-        side(RowSense::L, 3, Some(-2), 1, 3),
-        side(RowSense::G, 0, Some(3), 0, 3),
-        side(RowSense::E, 1, Some(-2), -1, 1),
-        side(RowSense::E, 5, Some(2), 5, 7),
+        make_side(RowSense::L, 4, None, i64::MIN, 4),
+        make_side(RowSense::L, -5, None, i64::MIN, -5),
+        make_side(RowSense::G, -1, None, -1, i64::MAX),
+        make_side(RowSense::E, 2, None, 2, 2),
+        make_side(RowSense::L, 3, Some(-2), 1, 3),
+        make_side(RowSense::G, 0, Some(3), 0, 3),
+        make_side(RowSense::E, 1, Some(-2), -1, 1),
+        make_side(RowSense::E, 5, Some(2), 5, 7),
     ]
 }
 
-fn side(sense: RowSense, rhs: i64, range: Option<i64>, least: i64, most: i64) -> Side {
+fn make_side(sense: RowSense, rhs: i64, range: Option<i64>, least: i64, most: i64) -> Side {
     Side {
         sense,
         rhs,
