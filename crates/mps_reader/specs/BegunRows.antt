@@ -2,7 +2,7 @@
 use Rattle.std.specs.Prelude.{◌≡◌, List, [], None}
 use Rattle.mps_reader.specs.MpsLines.{Line, field}
 use Rattle.mps_reader.specs.RowTables.{role_after}
-use Rattle.mps_reader.specs.declared.rows.RowDraft.{RowDraft}
+use Rattle.mps_reader.specs.declared.row_draft.RowDraft.{RowDraft}
 
 pub record IsBegun (row : RowDraft) (earlier : List Line) (l : Line) : Type 0 where
   pub name : row.name ≡ field 1 l

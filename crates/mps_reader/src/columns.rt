@@ -10,7 +10,8 @@ use crate::MpsKind;
 use crate::bounds::Bounds;
 use crate::fault::{Fault, name_of, number_within};
 use crate::named::Named;
-use crate::rows::{RowDraft, RowRole, Rows};
+use crate::row_draft::{RowDraft, RowRole};
+use crate::rows::Rows;
 use int_model::Name;
 use std::alloc::Global;
 

@@ -15,6 +15,7 @@ mod draft;
 mod fault;
 mod header;
 mod named;
+mod row_draft;
 mod rows;
 mod sides;
 

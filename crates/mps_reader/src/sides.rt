@@ -6,7 +6,8 @@ ghost use Rattle.mps_reader.specs.SideNumbers.{side_kind, side_of, side_then, Is
 
 use crate::MpsKind;
 use crate::fault::{Fault, SetName, number_within};
-use crate::rows::{RowDraft, RowRole, Rows};
+use crate::row_draft::{RowDraft, RowRole};
+use crate::rows::Rows;
 
 const MAX_SIDE: u64 = 1_000_000_000_000_000_000;
 
