@@ -6,3 +6,8 @@ pub mod FieldLemmas
 pub mod NamedLemmas
 pub mod BoundLemmas
 pub mod EndLemmas
+pub mod TableLemmas
+pub mod EntryLemmas
+pub mod RoleLemmas
+pub mod FieldLists
+pub mod SideLemmas

@@ -14,3 +14,7 @@ pub mod BegunRows
 pub mod EndedColumns
 pub mod SideNumbers
 pub mod ColumnNumbers
+pub mod Tables
+pub mod RowStates
+pub mod ColumnStates
+pub mod SideSteps
