@@ -1,11 +1,11 @@
 -- How one more entry changes what a section has given.
-use Rattle.std.proofs.Common.{◌≡◌, ◌∙◌, ap, sym, ℕ, ◌+◌, ◌<◌, ◌≤◌, Bool, true, false, ◌||◌, ◌&&◌, not, cond, nat_lt, nat_le, List, [], ◌∷◌, ◌++◌, length, Option, Some, None, refl, arith}
-use Rattle.std.specs.Prelude.{bytes_eq, is_some, option_map, find, count_by, if◌then◌else◌}
+use Rattle.std.proofs.Common.{◌≡◌, ◌∙◌, ap, ℕ, ◌+◌, Bool, true, false, ◌||◌, ◌&&◌, cond, List, [], ◌∷◌, ◌++◌, Option, Some, None, refl}
+use Rattle.std.specs.Prelude.{bytes_eq, is_some, option_map, find}
 use Rattle.std.specs.List.{list_any}
-use Rattle.std.proofs.lemmas.Bool.{or_parts, and_right, true≢false, lt-ltb, le-ltb, cases_lt, le-leb, lt-leb}
+use Rattle.std.proofs.lemmas.Bool.{or_parts, and_right}
 use Rattle.std.proofs.lemmas.List.Sums.{sum_by_push}
-use Rattle.mps_reader.specs.MpsLines.{Line, Entry, is_kept, is_one_of}
-use Rattle.mps_reader.specs.MpsRules.{or_else, first_kind, entries_kind, is_nonzero, term_count}
+use Rattle.mps_reader.specs.MpsLines.{Line, Entry, is_kept}
+use Rattle.mps_reader.specs.MpsRules.{or_else, entries_kind, is_nonzero, term_count}
 use Rattle.mps_reader.specs.MpsModels.{given, number_or_zero}
 use Rattle.mps_reader.specs.RowStates.{is_entry, is_given}
 use Rattle.mps_reader.specs.declared.MpsKind.{MpsKind}

@@ -30,3 +30,7 @@ kind_as (Err f) kind P e p = subst P (sym e) p
 pub kind_of_none : {T : Type 0} (o : Option T) (r : Result T MpsKind) (kind other : MpsKind) → o ≡ None → r ≡ Err kind → r ≡ ok_or o other → kind ≡ other
 kind_of_none None r kind other e v w = cc
 kind_of_none (Some t) r kind other e v w = absurd (cc)
+
+pub fault_itself : {T : Type 0} (r : Result T Fault) (fault : Fault) (P : Fault → Type 0) → IsErrAnd r (λ f. f ≡ fault) → P fault → IfErr r P
+fault_itself (Ok t) fault P e p = tt
+fault_itself (Err f) fault P e p = subst P (sym e) p

@@ -1,5 +1,7 @@
 -- Fields of a known number, one by one.
-use Rattle.std.proofs.Common.{◌≡◌, ◌≤◌, ◌<◌, ℕ, List, [], ◌∷◌, map, length, get_or, Bor, refl, arith}
+use Rattle.std.proofs.Common.{◌≡◌, ◌∙◌, ap, ◌≤◌, ◌<◌, ℕ, List, [], ◌∷◌, map, length, get_or, Bor, refl, arith}
+use Rattle.std.specs.Prelude.{slice_index_or}
+use Rattle.mps_reader.specs.MpsLines.{Line, field}
 
 pub fields2 : (fs : List (Bor (List ℕ))) (d e : Bor (List ℕ)) → 2 ≤ length fs → length fs < 3 → map (λ f. f.now) fs ≡ (get_or fs 0 d).now ∷ (get_or fs 1 e).now ∷ []
 fields2 [] d e h k = absurd (omega arith)
@@ -30,3 +32,9 @@ fields5 (a ∷ b ∷ x ∷ []) d e f g i h k = absurd (omega arith)
 fields5 (a ∷ b ∷ x ∷ y ∷ []) d e f g i h k = absurd (omega arith)
 fields5 (a ∷ b ∷ x ∷ y ∷ z ∷ []) d e f g i h k = refl
 fields5 (a ∷ b ∷ x ∷ y ∷ z ∷ w ∷ fs) d e f g i h k = absurd (omega arith)
+
+pub first_of_two : (l : Line) (fs : List (Bor (List ℕ))) (d : Bor (List ℕ)) → l.fields ≡ map (λ f. f.now) fs → 2 ≤ length fs → length fs < 3 → field 0 l ≡ (get_or fs 0 d).now
+first_of_two l fs d f h k = ap (λ words. slice_index_or words 0 []) (f ∙ fields2 fs d d h k)
+
+pub second_of_two : (l : Line) (fs : List (Bor (List ℕ))) (d : Bor (List ℕ)) → l.fields ≡ map (λ f. f.now) fs → 2 ≤ length fs → length fs < 3 → field 1 l ≡ (get_or fs 1 d).now
+second_of_two l fs d f h k = ap (λ words. slice_index_or words 1 []) (f ∙ fields2 fs d d h k)

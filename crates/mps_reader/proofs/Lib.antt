@@ -11,3 +11,5 @@ pub mod EntryLemmas
 pub mod RoleLemmas
 pub mod FieldLists
 pub mod SideLemmas
+pub mod TermLemmas
+pub mod ColumnLemmas

@@ -5,11 +5,11 @@ use Rattle.std.specs.List.{list_any}
 use Rattle.std.proofs.lemmas.Bool.{ne_eqb, or_parts}
 use Rattle.std.proofs.lemmas.List.{map-append}
 use Rattle.std.proofs.lemmas.List.Elements.{filter-append}
-use Rattle.mps_reader.specs.MpsLines.{Line, Entry, field, is_free, is_one_of, is_first, is_data_of, data_of, free_rows, kept_rows, is_kept, is_objective, is_dropped}
+use Rattle.mps_reader.specs.MpsLines.{Line, Entry, field, is_free, is_one_of, is_first, data_of, free_rows, kept_rows, is_kept, is_objective}
 use Rattle.mps_reader.specs.MpsRules.{is_row, entry_kind, or_else, first_kind, number_kind}
 use Rattle.mps_reader.specs.MpsModels.{sense_of}
 use Rattle.mps_reader.specs.TakenLines.{IsDataWith}
-use Rattle.mps_reader.specs.RowTables.{role_with, role_after, sense_after}
+use Rattle.mps_reader.specs.RowTables.{role_with, role_after}
 use Rattle.mps_reader.specs.ColumnNumbers.{makes_term}
 use Rattle.mps_reader.specs.SideNumbers.{ignores, most_of, side_of, side_kind}
 use Rattle.mps_reader.specs.RowStates.{HasRole, HasSide, is_objective_role, is_given, row_names, ignored_by, most_by}

@@ -1,23 +1,22 @@
 -- What a pair, or a line, of RHS or RANGES does to the rows.
-use Rattle.std.proofs.Common.{◌≡◌, ◌∙◌, ap, sym, subst, ℕ, ◌<◌, Bool, true, false, ◌||◌, ◌&&◌, not, List, [], ◌∷◌, ◌++◌, length, get_or, set, Option, Some, None, refl, append-nil, Bor, inl, inr}
-use Rattle.std.specs.Prelude.{bytes_eq, is_some, flat_map, filter_map, if◌then◌else◌, codes}
-use Rattle.std.specs.List.{list_any, position, IsDistinct, cons_option}
+use Rattle.std.proofs.Common.{◌≡◌, ◌∙◌, ap, sym, subst, ℕ, Bool, true, false, not, List, [], ◌∷◌, ◌++◌, get_or, set, Option, Some, None, refl, append-nil, Bor, inl, inr}
+use Rattle.std.specs.Prelude.{bytes_eq, is_some, flat_map, filter_map, if◌then◌else◌}
+use Rattle.std.specs.List.{position, cons_option}
 use Rattle.std.proofs.lemmas.Bool.{true≢false, false_from_ne_true, cases_Bool}
 use Rattle.std.proofs.lemmas.List.{append_assoc}
 use Rattle.std.proofs.lemmas.Grind.{flat_map-append}
 use Rattle.std.proofs.lemmas.Slice.Eq.{bytes_eq-Decides}
-use Rattle.mps_reader.specs.MpsLines.{Line, Entry, field, data_of, entries_of, set_entries, set_of, has_set, sets_of, is_one_of}
-use Rattle.mps_reader.specs.MpsRules.{is_row, or_else, first_kind, number_kind, is_second, entries_kind, set_kind}
-use Rattle.mps_reader.specs.MpsModels.{given, number_or_zero}
-use Rattle.mps_reader.specs.Sets.{AgreesWith, is_other}
+use Rattle.mps_reader.specs.MpsLines.{Line, Entry, field, data_of, entries_of, set_entries, has_set, sets_of, is_one_of}
+use Rattle.mps_reader.specs.MpsRules.{is_row, or_else, first_kind, number_kind, is_second, entries_kind}
+use Rattle.mps_reader.specs.MpsModels.{number_or_zero}
+use Rattle.mps_reader.specs.Sets.{AgreesWith}
 use Rattle.mps_reader.specs.TakenLines.{IsDataWith}
-use Rattle.mps_reader.specs.Tables.{IsTable, IsAlong, texts_of}
+use Rattle.mps_reader.specs.Tables.{IsAlong, texts_of}
 use Rattle.mps_reader.specs.SideNumbers.{ignores, side_of, side_kind, side_then, IsSameBesides}
 use Rattle.mps_reader.specs.ColumnNumbers.{makes_term}
-use Rattle.mps_reader.specs.RowStates.{HasRole, is_objective_role, HasSide, RowsAgree, SideAgrees, entry_with, is_given, row_names, word_of_side, side_line_kind, ignored_by, most_by}
-use Rattle.mps_reader.specs.SideSteps.{TakesPairs, RefusesPairs, SideReady, SideThen, pair_kind}
+use Rattle.mps_reader.specs.RowStates.{HasRole, is_objective_role, HasSide, RowsAgree, SideAgrees, entry_with, is_given, word_of_side, side_line_kind, ignored_by, most_by}
+use Rattle.mps_reader.specs.SideSteps.{TakesPairs, RefusesPairs, SideThen, pair_kind}
 use Rattle.mps_reader.specs.declared.row_draft.RowDraft.{RowDraft}
-use Rattle.mps_reader.specs.declared.row_draft.RowRole.{RowRole}
 use Rattle.mps_reader.specs.declared.sides.Side.{Side}
 use Rattle.mps_reader.specs.declared.sides.Side.TheVariants.{Rhs, Range}
 use Rattle.mps_reader.specs.declared.MpsKind.{MpsKind}

@@ -1,5 +1,5 @@
 -- What is kept of the columns, behind lines of a text.
-use Rattle.std.specs.Prelude.{◌≡◌, ◌&&◌, ℕ, Bool, true, false, List, [], ◌∷◌, length, codes, bytes_eq, nat_le, Option, Some, None, if◌then◌else◌}
+use Rattle.std.specs.Prelude.{◌≡◌, ◌&&◌, ℕ, Bool, false, List, [], ◌∷◌, length, codes, bytes_eq, nat_le, Option, Some, None, if◌then◌else◌}
 use Rattle.std.specs.List.{IsDistinct}
 use Rattle.mps_reader.specs.MpsLines.{Line, field, data_of, is_marker, begins_column, column_starts, column_names, integer_names, in_integer_part, is_one_of, last_of}
 use Rattle.mps_reader.specs.MpsRules.{first_kind, is_long}
@@ -17,6 +17,10 @@ continued_by (Some l) = if is_marker l then None else Some (field 0 l)
 
 abbrev pub current_of : List Line → Option (List ℕ)
 current_of ls = continued_by (last_of (data_of (codes "COLUMNS") ls))
+
+abbrev pub is_name : Option (List ℕ) → List ℕ → Bool
+is_name None name = false
+is_name (Some n) name = bytes_eq n name
 
 -- the names, the column that may go on, and whether an integer part is open
 pub record ColumnsReady (names : List (List ℕ)) (current : Option (List ℕ)) (part : Bool) (ls : List Line) : Type 0 where

@@ -18,3 +18,4 @@ pub mod Tables
 pub mod RowStates
 pub mod ColumnStates
 pub mod SideSteps
+pub mod ColumnSteps

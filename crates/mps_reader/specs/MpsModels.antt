@@ -16,12 +16,12 @@ use Rattle.int_model.specs.declared.model.RowSense.{RowSense}
 use Rattle.int_model.specs.declared.model.RowSense.TheVariants.{L, G, E}
 use Rattle.int_model.specs.declared.model.Direction.TheVariants.{Min, Max}
 
+abbrev pub ok_or_zero : Result ℤ NumberError → ℤ
+ok_or_zero (Ok z) = z
+ok_or_zero (Err e) = pos 0
+
 abbrev pub number_or_zero : List ℕ → ℤ
 number_or_zero text = ok_or_zero (number_of text)
-  where
-    ok_or_zero : Result ℤ NumberError → ℤ
-    ok_or_zero (Ok z) = z
-    ok_or_zero (Err e) = pos 0
 
 -- the number that the entries give for a row in a column or a section
 abbrev pub given : List Entry → List ℕ → List ℕ → Option ℤ

@@ -1,5 +1,5 @@
 -- What is kept of the rows, behind lines of a text.
-use Rattle.std.specs.Prelude.{◌≡◌, ◌<◌, ◌≤◌, ◌-◌, ℕ, Bool, true, false, ◌&&◌, not, List, [], length, map, codes, bytes_eq, Option, Some, None, if◌then◌else◌, ◌^◌}
+use Rattle.std.specs.Prelude.{◌≡◌, ◌<◌, ◌≤◌, ◌-◌, ℕ, Bool, true, false, ◌&&◌, not, List, [], length, map, codes, bytes_eq, Option, Some, if◌then◌else◌, ◌^◌}
 use Rattle.std.specs.List.{list_any, IsDistinct}
 use Rattle.mps_reader.specs.MpsLines.{Line, Entry, field, data_of, free_rows, is_kept, is_objective, is_dropped, is_one_of, last_of}
 use Rattle.mps_reader.specs.MpsRules.{term_count, set_kind}

@@ -4,7 +4,6 @@ use Rattle.std.specs.Borrow.{Bor}
 use Rattle.mps_reader.specs.MpsLines.{Line, Entry, entries_of, sets_of}
 use Rattle.mps_reader.specs.MpsRules.{entry_kind, entries_kind}
 use Rattle.mps_reader.specs.Sets.{AgreesWith}
-use Rattle.mps_reader.specs.TakenLines.{IsDataWith}
 use Rattle.mps_reader.specs.Tables.{texts_of}
 use Rattle.mps_reader.specs.RowStates.{RowsAgree, SideAgrees, ignored_by, most_by, word_of_side, side_line_kind}
 use Rattle.mps_reader.specs.declared.MpsKind.{MpsKind}

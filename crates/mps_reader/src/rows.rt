@@ -5,6 +5,8 @@ ghost use Rattle.mps_reader.specs.MpsRules.{row_kind};
 ghost use Rattle.mps_reader.specs.Faults.{IsFault};
 ghost use Rattle.mps_reader.specs.TakenLines.{IsDataWith};
 ghost use Rattle.mps_reader.specs.RowTables.{sense_words, sense_after, role_with, RowsReady};
+ghost use Rattle.mps_reader.specs.Tables.{texts_of};
+ghost use Rattle.mps_reader.specs.BegunRows.{IsRowPushed};
 ghost use Rattle.std.specs.Option.{ForSome};
 
 use crate::MpsKind;
@@ -61,6 +63,7 @@ impl<'a> Rows<'a> {
         requires { All (λ f. 0 < length f.now) fields.now }
         ensures kind { OnOk result ((earlier : List Line) (l : Line) → IsDataWith (codes "ROWS") l (map (λ f. f.now) fields.now) → RowsReady self.old.table.names.keys self.old.kept self.old.has_objective earlier → row_kind earlier l ≡ None) }
         ensures ready { OnOk result ((earlier : List Line) (l : Line) → IsDataWith (codes "ROWS") l (map (λ f. f.now) fields.now) → RowsReady self.old.table.names.keys self.old.kept self.old.has_objective earlier → RowsReady self.new.table.names.keys self.new.kept self.new.has_objective (earlier ++ l ∷ [])) }
+        ensures row { OnOk result ((earlier : List Line) (l : Line) → IsDataWith (codes "ROWS") l (map (λ f. f.now) fields.now) → RowsReady self.old.table.names.keys self.old.kept self.old.has_objective earlier → IsRowPushed (texts_of self.old.table.names.keys) self.old.table.items.items (texts_of self.new.table.names.keys) self.new.table.items.items earlier l) }
         ensures err { IfErr result (λ fault. (earlier : List Line) (l : Line) → IsDataWith (codes "ROWS") l (map (λ f. f.now) fields.now) → RowsReady self.old.table.names.keys self.old.kept self.old.has_objective earlier → IsFault fault (row_kind earlier l)) }
     {
         let [word, field] = fields else {

@@ -1,4 +1,4 @@
-use Rattle.std.proofs.Common.{◌∙◌, sym, ap}
+use Rattle.std.proofs.Common.{◌∙◌}
 use Rattle.mps_reader.proofs.FaultLemmas.{on_ok, if_err}
 use Rattle.mps_reader.proofs.FieldLists.{fields2, fields3, fields4, fields5}
 use Rattle.mps_reader.proofs.SideLemmas.{two_fields, three_fields, four_fields, five_fields, line_taken, line_refused, unnamed_set}
