@@ -187,7 +187,7 @@ no_column : (o : Option ℕ) (n : ℕ) → ((k : ℕ) → o ≡ Some k → k < n
 no_column None n below = refl
 no_column (Some k) n below = let h : k < n = below k refl in ne_eqb k n (λ e. omega (arith, e, h))
 
-absent_before : (names : List (List ℕ)) (n o : List ℕ) → is_one_of (names ++ n ∷ []) o ≡ false → is_one_of names o ≡ false
+pub absent_before : (names : List (List ℕ)) (n o : List ℕ) → is_one_of (names ++ n ∷ []) o ≡ false → is_one_of names o ≡ false
 absent_before names n o e = (or_parts (is_one_of names o) (is_one_of (n ∷ []) o) (sym (list_any-append (bytes_eq o) names (n ∷ [])) ∙ e)).0
 
 pub entries_pushed : (names columns : List (List ℕ)) (rows : List RowDraft) (count : ℕ) (ls : List Line) (es : List Entry) (m : List ℕ) → is_one_of columns m ≡ false → EntriesAgree names rows columns count ls es → EntriesAgree names rows (columns ++ m ∷ []) count ls es

@@ -1,7 +1,7 @@
 -- Faults that `?` makes of refusals.
 use Rattle.std.proofs.Common.{sym, subst, ◌≡◌, Result, Ok, Err, Option, Some, None}
 use Rattle.std.specs.Option.{ok_or}
-use Rattle.std.specs.Result.{IsErrAnd, IfErr, OnOk}
+use Rattle.std.specs.Result.{IsErrAnd, IfErr, IfOk, OnOk}
 use Rattle.mps_reader.specs.declared.MpsKind.{MpsKind}
 use Rattle.mps_reader.specs.declared.fault.Fault.{Fault}
 use Rattle.mps_reader.specs.declared.fault.Fault.TheVariants.{Refused}
@@ -34,3 +34,11 @@ kind_of_none (Some t) r kind other e v w = absurd (cc)
 pub fault_itself : {T : Type 0} (r : Result T Fault) (fault : Fault) (P : Fault → Type 0) → IsErrAnd r (λ f. f ≡ fault) → P fault → IfErr r P
 fault_itself (Ok t) fault P e p = tt
 fault_itself (Err f) fault P e p = subst P (sym e) p
+
+pub on_ok_three : {T E : Type 0} (r : Result T E) (P Q R S : Type 0) → (P → Q → R → S) → OnOk r P → OnOk r Q → OnOk r R → OnOk r S
+on_ok_three (Ok t) P Q R S f p q x = f p q x
+on_ok_three (Err e) P Q R S f p q x = tt
+
+pub if_ok : {T E : Type 0} (r : Result T E) (P Q : T → Type 0) → ((t : T) → P t → Q t) → IfOk r P → IfOk r Q
+if_ok (Ok t) P Q f p = f t p
+if_ok (Err e) P Q f p = tt

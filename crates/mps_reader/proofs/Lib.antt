@@ -13,3 +13,6 @@ pub mod FieldLists
 pub mod SideLemmas
 pub mod TermLemmas
 pub mod ColumnLemmas
+pub mod FrameLemmas
+pub mod DraftLemmas
+pub mod ReadingLemmas

@@ -27,7 +27,7 @@ use Rattle.mps_reader.proofs.EntryLemmas.{given_some}
 
 -- ---- which names are rows
 
-abbrev names_row : List ℕ → Line → Bool
+abbrev pub names_row : List ℕ → Line → Bool
 names_row n l = bytes_eq (field 1 l) n
 
 or_swap : (a b c : Bool) → (a || (b || c)) ≡ (b || (a || c))
@@ -58,13 +58,13 @@ free_then ls l words d =
     ∙ map-append (field 1) (filter is_free (data_of (codes "ROWS") ls)) (cond (is_free l) (l ∷ []) [])
     ∙ ap (λ r. free_rows ls ++ r) (one_if (is_free l) l)
 
-kept_then : (ls : List Line) (l : Line) (words : List (List ℕ)) → IsDataWith (codes "ROWS") l words → kept_rows (ls ++ l ∷ []) ≡ kept_rows ls ++ cond (not (is_free l)) (l ∷ []) []
+pub kept_then : (ls : List Line) (l : Line) (words : List (List ℕ)) → IsDataWith (codes "ROWS") l words → kept_rows (ls ++ l ∷ []) ≡ kept_rows ls ++ cond (not (is_free l)) (l ∷ []) []
 kept_then ls l words d =
     ap (filter (λ l. not (is_free l))) (data_then (codes "ROWS") ls l words d)
     ∙ filter-append (λ l. not (is_free l)) (data_of (codes "ROWS") ls) (l ∷ [])
 
 module _ (n m : List ℕ) (other : bytes_eq m n ≡ false) where
-  free_other : (b : Bool) (F : List (List ℕ)) → is_one_of (F ++ cond b (m ∷ []) []) n ≡ is_one_of F n
+  pub free_other : (b : Bool) (F : List (List ℕ)) → is_one_of (F ++ cond b (m ∷ []) []) n ≡ is_one_of F n
   free_other true F = list_any-append (bytes_eq n) F (m ∷ []) ∙ ap (λ b. is_one_of F n || (b || false)) (bytes_eq-sym n m ∙ other) ∙ or-false (is_one_of F n)
   free_other false F = list_any-append (bytes_eq n) F [] ∙ or-false (is_one_of F n)
 
@@ -73,7 +73,7 @@ module _ (n m : List ℕ) (other : bytes_eq m n ≡ false) where
   first_other false [] = refl
   first_other b (f ∷ F) = refl
 
-  kept_other : (b : Bool) (K : List Line) (l : Line) → field 1 l ≡ m → list_any (names_row n) (K ++ cond b (l ∷ []) []) ≡ list_any (names_row n) K
+  pub kept_other : (b : Bool) (K : List Line) (l : Line) → field 1 l ≡ m → list_any (names_row n) (K ++ cond b (l ∷ []) []) ≡ list_any (names_row n) K
   kept_other true K l e = list_any-append (names_row n) K (l ∷ []) ∙ ap (λ w. list_any (names_row n) K || (bytes_eq w n || false)) e ∙ ap (λ b. list_any (names_row n) K || (b || false)) other ∙ or-false (list_any (names_row n) K)
   kept_other false K l e = list_any-append (names_row n) K [] ∙ or-false (list_any (names_row n) K)
 

@@ -19,3 +19,6 @@ pub mod RowStates
 pub mod ColumnStates
 pub mod SideSteps
 pub mod ColumnSteps
+pub mod Drafts
+pub mod Endings
+pub mod Readings

@@ -61,7 +61,13 @@ fn begins_part(word: &[u8]) -> Result<bool, MpsKind>
 }
 
 impl<'a> Columns<'a> {
-    pub(crate) fn new(alloc: Global) -> Self {
+    pub(crate) fn new(alloc: Global) -> Self
+        ensures items { result.table.items.items ≡ [] }
+        ensures names { result.table.names.keys ≡ [] }
+        ensures part { result.in_integer_part ≡ false }
+        ensures current { result.current ≡ None }
+        ensures entries { result.entries ≡ 0 }
+    {
         Columns {
             table: Named::new(alloc),
             in_integer_part: false,
@@ -71,7 +77,9 @@ impl<'a> Columns<'a> {
     }
 
     /// The columns, in order.
-    pub(crate) fn into_items(self) -> Vec<ColumnDraft> {
+    pub(crate) fn into_items(self) -> Vec<ColumnDraft>
+        ensures { result ≡ self.entry.table.items }
+    {
         let Columns {
             table,
             in_integer_part: _,

@@ -51,7 +51,12 @@ fn constant_of(rhs: Option<i64>) -> i64
 }
 
 impl<'a> Rows<'a> {
-    pub(crate) fn new(alloc: Global) -> Self {
+    pub(crate) fn new(alloc: Global) -> Self
+        ensures items { result.table.items.items ≡ [] }
+        ensures names { result.table.names.keys ≡ [] }
+        ensures kept { result.kept ≡ 0 }
+        ensures objective { result.has_objective ≡ false }
+    {
         Rows {
             table: Named::new(alloc),
             kept: 0,
