@@ -4,8 +4,8 @@ use Rattle.mps_reader.specs.MpsRules.{first_kind, or_else, number_kind, is_nonze
 use Rattle.mps_reader.specs.MpsLines.{is_one_of}
 use Rattle.mps_reader.specs.declared.MpsKind.{MpsKind}
 use Rattle.mps_reader.specs.declared.MpsKind.TheVariants.{Duplicate, TooMany, LongName}
-use Rattle.mps_reader.specs.declared.rows.RowRole.{RowRole}
-use Rattle.mps_reader.specs.declared.rows.RowRole.TheVariants.{Objective, Dropped, Kept}
+use Rattle.mps_reader.specs.declared.row_draft.RowRole.{RowRole}
+use Rattle.mps_reader.specs.declared.row_draft.RowRole.TheVariants.{Objective, Dropped, Kept}
 
 abbrev pub makes_term : RowRole → Bool
 makes_term Objective = false

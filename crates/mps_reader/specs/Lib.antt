@@ -14,3 +14,11 @@ pub mod BegunRows
 pub mod EndedColumns
 pub mod SideNumbers
 pub mod ColumnNumbers
+pub mod Tables
+pub mod RowStates
+pub mod ColumnStates
+pub mod SideSteps
+pub mod ColumnSteps
+pub mod Drafts
+pub mod Endings
+pub mod Readings

@@ -55,12 +55,12 @@ abbrev pub is_kept : List Line → List ℕ → Bool
 is_kept ls name = list_any (λ l. bytes_eq (field 1 l) name) (kept_rows ls)
 
 -- the first free row is the objective, and the further ones are dropped
+abbrev pub is_first : List (List ℕ) → List ℕ → Bool
+is_first [] name = false
+is_first (n ∷ ns) name = bytes_eq n name
+
 abbrev pub is_objective : List Line → List ℕ → Bool
-is_objective ls name = first_is (free_rows ls)
-  where
-    first_is : List (List ℕ) → Bool
-    first_is [] = false
-    first_is (n ∷ ns) = bytes_eq n name
+is_objective ls name = is_first (free_rows ls) name
 
 abbrev pub is_dropped : List Line → List ℕ → Bool
 is_dropped ls name = is_one_of (free_rows ls) name && not (is_objective ls name)
@@ -74,38 +74,41 @@ abbrev pub column_lines : List Line → List Line
 column_lines ls = filter (λ l. not (is_marker l)) (data_of (codes "COLUMNS") ls)
 
 -- the line begins a column: the line before it in its section is a marker or names another column
+abbrev pub begins_behind : Option Line → List ℕ → Bool
+begins_behind None name = true
+begins_behind (Some k) name = is_marker k || not (bytes_eq (field 0 k) name)
+
 abbrev pub begins_column : List Line → Line → Bool
-begins_column earlier l = begins (last_of (data_of (codes "COLUMNS") earlier))
-  where
-    begins : Option Line → Bool
-    begins None = true
-    begins (Some k) = is_marker k || not (bytes_eq (field 0 k) (field 0 l))
+begins_column earlier l = begins_behind (last_of (data_of (codes "COLUMNS") earlier)) (field 0 l)
+
+abbrev pub cons_if : {X : Type 0} → Bool → X → List X → List X
+cons_if true x xs = x ∷ xs
+cons_if false x xs = xs
 
 -- the elements that pass a test which sees those before them
 abbrev pub filter_after : {X : Type 0} → (List X → X → Bool) → List X → List X → List X
 filter_after test before [] = []
 filter_after test before (x ∷ xs) = cons_if (test before x) x (filter_after test (before ++ x ∷ []) xs)
-  where
-    cons_if : {X : Type 0} → Bool → X → List X → List X
-    cons_if true x xs = x ∷ xs
-    cons_if false x xs = xs
+
+abbrev pub starts_column : List Line → Line → Bool
+starts_column before l = is_data_of (codes "COLUMNS") l && not (is_marker l) && begins_column before l
 
 abbrev pub column_starts : List Line → List Line
-column_starts ls = filter_after (λ before l. is_data_of (codes "COLUMNS") l && not (is_marker l) && begins_column before l) [] ls
+column_starts ls = filter_after starts_column [] ls
 
 abbrev pub column_names : List Line → List (List ℕ)
 column_names ls = map (field 0) (column_starts ls)
 
 -- the last marker before the line begins an integer part
+abbrev pub begins_part : Option Line → Bool
+begins_part None = false
+begins_part (Some k) = bytes_eq (field 2 k) (codes "'INTORG'")
+
 abbrev pub in_integer_part : List Line → Bool
-in_integer_part earlier = begins (last_of (filter is_marker (data_of (codes "COLUMNS") earlier)))
-  where
-    begins : Option Line → Bool
-    begins None = false
-    begins (Some k) = bytes_eq (field 2 k) (codes "'INTORG'")
+in_integer_part earlier = begins_part (last_of (filter is_marker (data_of (codes "COLUMNS") earlier)))
 
 abbrev pub integer_names : List Line → List (List ℕ)
-integer_names ls = map (field 0) (filter_after (λ before l. is_data_of (codes "COLUMNS") l && not (is_marker l) && begins_column before l && in_integer_part before) [] ls)
+integer_names ls = map (field 0) (filter_after (λ before l. starts_column before l && in_integer_part before) [] ls)
 
 -- ---- entries: a number for a row, in a column or in a section
 
@@ -150,9 +153,10 @@ bound_column l = if bound_has_set l then field 2 l else field 1 l
 abbrev pub bound_text : Line → List ℕ
 bound_text l = if bound_has_set l then field 3 l else field 2 l
 
+-- the set that a line of a section names
+abbrev pub set_of : List ℕ → Line → Option (List ℕ)
+set_of section l = if (if bytes_eq section (codes "BOUNDS") then bound_has_set l else has_set l) then Some (if bytes_eq section (codes "BOUNDS") then field 1 l else field 0 l) else None
+
 -- the sets that the lines of a section name
 abbrev pub sets_of : List ℕ → List Line → List (List ℕ)
-sets_of section ls = filter_map set_of (data_of section ls)
-  where
-    set_of : Line → Option (List ℕ)
-    set_of l = if (if bytes_eq section (codes "BOUNDS") then bound_has_set l else has_set l) then Some (if bytes_eq section (codes "BOUNDS") then field 1 l else field 0 l) else None
+sets_of section ls = filter_map (set_of section) (data_of section ls)

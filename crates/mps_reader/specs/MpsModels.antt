@@ -1,5 +1,5 @@
 -- The model that a text has.
-use Rattle.std.specs.Prelude.{ℕ, zero, suc, ◌+◌, ℤ, pos, neg_ℤ, negsuc, int_lt, Bool, true, false, ◌&&◌, ◌||◌, not, nat_eq, if◌then◌else◌, List, [], ◌∷◌, ◌++◌, length, filter, filter_map, find, count_by, codes, Option, Some, None, option_map, option_and_then, is_some, is_none, unwrap_or, Ok, Err, Result, map, bytes_eq}
+use Rattle.std.specs.Prelude.{ℕ, ◌+◌, ℤ, pos, neg_ℤ, int_lt, unsigned_abs, Bool, true, false, ◌&&◌, ◌||◌, not, nat_eq, nat_lt, if◌then◌else◌, List, slice_get, [], ◌∷◌, ◌++◌, length, filter, filter_map, find, count_by, codes, Option, Some, None, option_map, option_and_then, is_some, is_none, unwrap_or, Ok, Err, Result, map, bytes_eq}
 use Rattle.std.specs.Option.{option_map_or}
 use Rattle.std.specs.List.{list_any, enumerate_from}
 use Rattle.num_text.specs.Lines.{lines_of}
@@ -16,12 +16,12 @@ use Rattle.int_model.specs.declared.model.RowSense.{RowSense}
 use Rattle.int_model.specs.declared.model.RowSense.TheVariants.{L, G, E}
 use Rattle.int_model.specs.declared.model.Direction.TheVariants.{Min, Max}
 
+abbrev pub ok_or_zero : Result ℤ NumberError → ℤ
+ok_or_zero (Ok z) = z
+ok_or_zero (Err e) = pos 0
+
 abbrev pub number_or_zero : List ℕ → ℤ
 number_or_zero text = ok_or_zero (number_of text)
-  where
-    ok_or_zero : Result ℤ NumberError → ℤ
-    ok_or_zero (Ok z) = z
-    ok_or_zero (Err e) = pos 0
 
 -- the number that the entries give for a row in a column or a section
 abbrev pub given : List Entry → List ℕ → List ℕ → Option ℤ
@@ -104,11 +104,7 @@ sense_of word = if bytes_eq word (codes "L") then L else if bytes_eq word (codes
 
 -- the objective row's name
 abbrev pub objective_of : List Line → Option (List ℕ)
-objective_of ls = slice_first (free_rows ls)
-  where
-    slice_first : List (List ℕ) → Option (List ℕ)
-    slice_first [] = None
-    slice_first (n ∷ ns) = Some n
+objective_of ls = slice_get (free_rows ls) 0
 
 abbrev pub column_of : List Line → List ℕ → Column
 column_of ls name = record {
@@ -118,13 +114,11 @@ column_of ls name = record {
   high = unwrap_or (high_of ls name) (pos 0);
 }
 
+abbrev pub is_not_zero : ℤ → Bool
+is_not_zero z = nat_lt 0 (unsigned_abs z)
+
 abbrev pub terms_of : List Line → List ℕ → List (ℕ × ℤ)
 terms_of ls row = filter (λ (t : ℕ × ℤ). is_not_zero t.1) (map (λ (c : ℕ × List ℕ). (c.0, entry_of ls c.1 row)) (enumerate_from 0 (column_names ls)))
-  where
-    is_not_zero : ℤ → Bool
-    is_not_zero (pos zero) = false
-    is_not_zero (pos (suc n)) = true
-    is_not_zero (negsuc n) = true
 
 abbrev pub row_of : List Line → Line → Row
 row_of ls l = record {
@@ -153,16 +147,20 @@ Refusal = ℕ × MpsKind
 abbrev pub is_end : Line → Bool
 is_end l = l.header && bytes_eq l.section (codes "ENDATA")
 
+-- the end's line, behind these lines, where it is no refusal itself; given the first kind at the end
+abbrev pub at_its_end : List Line → Line → Option MpsKind → Result IntegerModel Refusal
+at_its_end earlier l (Some kind) = Err (l.number, kind)
+at_its_end earlier l None = Ok (model_of_lines earlier)
+
+-- a line behind these lines, given its first kind and what the lines behind it make
+abbrev pub by_kind : List Line → Line → Option MpsKind → Result IntegerModel Refusal → Result IntegerModel Refusal
+by_kind earlier l (Some kind) more = Err (l.number, kind)
+by_kind earlier l None more = if is_end l then at_its_end earlier l (end_kind earlier (column_names earlier)) else more
+
 -- the model of the lines up to the end's, or the first line that is refused; last is one more than the number of lines
 abbrev pub model_from : ℕ → List Line → List Line → Result IntegerModel Refusal
 model_from last earlier [] = Err (last, NoEnd)
-model_from last earlier (l ∷ ls) = by_kind (line_kind earlier l) (is_end l) (end_kind earlier (column_names earlier)) (model_from last (earlier ++ l ∷ []) ls)
-  where
-    by_kind : Option MpsKind → Bool → Option MpsKind → Result IntegerModel Refusal → Result IntegerModel Refusal
-    by_kind (Some kind) ends at_end more = Err (l.number, kind)
-    by_kind None true (Some kind) more = Err (l.number, kind)
-    by_kind None true None more = Ok (model_of_lines earlier)
-    by_kind None false at_end more = more
+model_from last earlier (l ∷ ls) = by_kind earlier l (line_kind earlier l) (model_from last (earlier ++ l ∷ []) ls)
 
 abbrev pub model_of : List ℕ → Result IntegerModel Refusal
 model_of bytes = model_from (length (lines_of bytes) + 1) [] (mps_lines bytes)

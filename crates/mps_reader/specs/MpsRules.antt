@@ -32,12 +32,12 @@ number_kind most text = by_result (number_of text)
     by_result (Err number.Fraction) = Some Fraction
     by_result (Err number.TooWide) = Some Magnitude
 
+abbrev pub is_nonzero_result : Result ℤ NumberError → Bool
+is_nonzero_result (Ok z) = nat_lt 0 (unsigned_abs z)
+is_nonzero_result (Err e) = false
+
 abbrev pub is_nonzero : List ℕ → Bool
-is_nonzero text = by_result (number_of text)
-  where
-    by_result : Result ℤ NumberError → Bool
-    by_result (Ok z) = nat_lt 0 (unsigned_abs z)
-    by_result (Err e) = false
+is_nonzero text = is_nonzero_result (number_of text)
 
 -- ---- headers
 

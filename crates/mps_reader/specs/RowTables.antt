@@ -3,8 +3,8 @@ use Rattle.std.specs.Prelude.{◌≡◌, ℕ, Bool, true, false, not, nat_eq, Li
 use Rattle.std.specs.Borrow.{Bor}
 use Rattle.mps_reader.specs.MpsLines.{Line, field, data_of, free_rows, kept_rows}
 use Rattle.mps_reader.specs.MpsModels.{sense_of}
-use Rattle.mps_reader.specs.declared.rows.RowRole.{RowRole}
-use Rattle.mps_reader.specs.declared.rows.RowRole.TheVariants.{Objective, Dropped, Kept}
+use Rattle.mps_reader.specs.declared.row_draft.RowRole.{RowRole}
+use Rattle.mps_reader.specs.declared.row_draft.RowRole.TheVariants.{Objective, Dropped, Kept}
 use Rattle.int_model.specs.declared.model.RowSense.{RowSense}
 
 -- the words of the first field

@@ -4,9 +4,9 @@ use Rattle.mps_reader.specs.MpsRules.{first_kind, or_else, number_kind}
 use Rattle.mps_reader.specs.MpsModels.{number_or_zero}
 use Rattle.mps_reader.specs.declared.MpsKind.{MpsKind}
 use Rattle.mps_reader.specs.declared.MpsKind.TheVariants.{Duplicate}
-use Rattle.mps_reader.specs.declared.rows.RowRole.{RowRole}
-use Rattle.mps_reader.specs.declared.rows.RowRole.TheVariants.{Objective, Dropped, Kept}
-use Rattle.mps_reader.specs.declared.rows.RowDraft.{RowDraft}
+use Rattle.mps_reader.specs.declared.row_draft.RowRole.{RowRole}
+use Rattle.mps_reader.specs.declared.row_draft.RowRole.TheVariants.{Objective, Dropped, Kept}
+use Rattle.mps_reader.specs.declared.row_draft.RowDraft.{RowDraft}
 use Rattle.mps_reader.specs.declared.sides.Side.{Side}
 use Rattle.mps_reader.specs.declared.sides.Side.TheVariants.{Rhs, Range}
 

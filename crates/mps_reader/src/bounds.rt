@@ -291,6 +291,9 @@ pub(crate) fn take_bound<'a>(
 ) -> Result<(), MpsKind>
     requires { 0 < length fields.now }
     ensures names { columns.new.table.names ≡ columns.old.table.names }
+    ensures current { columns.new.current ≡ columns.old.current }
+    ensures part { columns.new.in_integer_part ≡ columns.old.in_integer_part }
+    ensures entries { columns.new.entries ≡ columns.old.entries }
     ensures kind { OnOk result ((earlier : List Line) (l : Line) → IsDataWith (codes "BOUNDS") l (map (λ f. f.now) fields.now) → BoundsReady set.old.first columns.old.table.names.keys earlier → bound_kind earlier l ≡ None) }
     ensures sets { OnOk result ((earlier : List Line) (l : Line) → IsDataWith (codes "BOUNDS") l (map (λ f. f.now) fields.now) → BoundsReady set.old.first columns.old.table.names.keys earlier → AgreesWith set.new.first (sets_of (codes "BOUNDS") (earlier ++ l ∷ []))) }
     ensures bounds { OnOk result ((earlier : List Line) (l : Line) (k : ℕ) (d : ColumnDraft) → IsDataWith (codes "BOUNDS") l (map (λ f. f.now) fields.now) → BoundsReady set.old.first columns.old.table.names.keys earlier → position (bytes_eq (bound_column l)) (column_names earlier) ≡ Some k → columns.new.table.items.items ≡ slice_set columns.old.table.items.items k (with_bound (slice_index_or columns.old.table.items.items k d) l)) }

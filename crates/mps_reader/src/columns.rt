@@ -1,16 +1,22 @@
 // The section COLUMNS: markers of integer parts, and each column's numbers for its rows.
-ghost use Rattle.std.specs.Prelude.{◌≡◌, ◌≤◌, ◌<◌, ◌+◌, ◌∷◌, ◌++◌, ◌⊎◌, [], IfOk, IfErr, IfSome, OnOk, pos, ◌≢◌, if◌then◌else◌, All, length, map, option_map, codes, bytes_eq, true, false, vec_len};
-ghost use Rattle.mps_reader.specs.MpsLines.{Line, field, is_one_of};
-ghost use Rattle.mps_reader.specs.MpsRules.{marker_kind};
+ghost use Rattle.std.specs.Prelude.{◌≡◌, ◌≤◌, ◌<◌, ◌+◌, ◌∷◌, ◌++◌, ◌⊎◌, [], IfOk, IfErr, IfSome, OnOk, pos, ◌≢◌, if◌then◌else◌, All, length, map, option_map, unsigned_abs, List, codes, bytes_eq, true, false, vec_len};
+ghost use Rattle.mps_reader.specs.MpsLines.{Line, field, is_marker, is_one_of};
+ghost use Rattle.mps_reader.specs.MpsRules.{marker_kind, column_kind};
 ghost use Rattle.mps_reader.specs.Faults.{IsFault};
 ghost use Rattle.mps_reader.specs.ColumnNumbers.{new_column_kind, number_for_kind, makes_term, is_unread, is_column};
 ghost use Rattle.mps_reader.specs.MpsModels.{number_or_zero};
+ghost use Rattle.mps_reader.specs.MpsLines.{begins_column};
+ghost use Rattle.mps_reader.specs.Tables.{texts_of, IsAlong};
+ghost use Rattle.mps_reader.specs.ColumnStates.{ColumnsReady, is_name, name_kind};
+ghost use Rattle.mps_reader.specs.ColumnSteps.{IsColumnLine, IsColumnPushed, AddsColumn, TakesTerms, RefusesTerms, HasSameSides, HasSameBounds, ColumnReady, ColumnThen};
+ghost use Rattle.mps_reader.specs.TakenLines.{IsDataWith};
 
 use crate::MpsKind;
 use crate::bounds::Bounds;
 use crate::fault::{Fault, name_of, number_within};
 use crate::named::Named;
-use crate::rows::{RowDraft, RowRole, Rows};
+use crate::row_draft::{RowDraft, RowRole};
+use crate::rows::Rows;
 use int_model::Name;
 use std::alloc::Global;
 
@@ -55,7 +61,13 @@ fn begins_part(word: &[u8]) -> Result<bool, MpsKind>
 }
 
 impl<'a> Columns<'a> {
-    pub(crate) fn new(alloc: Global) -> Self {
+    pub(crate) fn new(alloc: Global) -> Self
+        ensures items { result.table.items.items ≡ [] }
+        ensures names { result.table.names.keys ≡ [] }
+        ensures part { result.in_integer_part ≡ false }
+        ensures current { result.current ≡ None }
+        ensures entries { result.entries ≡ 0 }
+    {
         Columns {
             table: Named::new(alloc),
             in_integer_part: false,
@@ -65,7 +77,9 @@ impl<'a> Columns<'a> {
     }
 
     /// The columns, in order.
-    pub(crate) fn into_items(self) -> Vec<ColumnDraft> {
+    pub(crate) fn into_items(self) -> Vec<ColumnDraft>
+        ensures { result ≡ self.entry.table.items }
+    {
         let Columns {
             table,
             in_integer_part: _,
@@ -75,6 +89,7 @@ impl<'a> Columns<'a> {
         table.into_items()
     }
 
+    /// Takes a line of the section.
     pub(crate) fn take_line(
         &mut self,
         alloc: Global,
@@ -82,17 +97,24 @@ impl<'a> Columns<'a> {
         fields: &[&'a [u8]],
     ) -> Result<(), Fault>
         requires { All (λ f. 0 < length f.now) fields.now }
+        ensures ok { OnOk result ((earlier : List Line) (l : Line) → IsDataWith (codes "COLUMNS") l (map (λ f. f.now) fields.now) → ColumnReady rows.old.table.names.keys rows.old.table.items.items self.old.table.names.keys (option_map (λ c. c.now) self.old.current) self.old.in_integer_part self.old.entries earlier → ColumnThen rows.old.table.names.keys rows.new.table.items.items self.old.table.names.keys self.old.table.items.items self.old.in_integer_part self.new.table.names.keys self.new.table.items.items (option_map (λ c. c.now) self.new.current) self.new.in_integer_part self.new.entries earlier l) }
+        ensures sides { IsAlong HasSameSides rows.old.table.items.items rows.new.table.items.items }
+        ensures names { rows.new.table.names ≡ rows.old.table.names }
+        ensures kept { rows.new.kept ≡ rows.old.kept }
+        ensures objective { rows.new.has_objective ≡ rows.old.has_objective }
+        ensures err { IfErr result (λ fault. (earlier : List Line) (l : Line) → IsDataWith (codes "COLUMNS") l (map (λ f. f.now) fields.now) → ColumnReady rows.old.table.names.keys rows.old.table.items.items self.old.table.names.keys (option_map (λ c. c.now) self.old.current) self.old.in_integer_part self.old.entries earlier → IsFault fault (column_kind earlier l)) }
     {
+        if names_marker(fields) {
+            return Ok(self.take_marker(fields)?);
+        }
         match fields {
-            [_, b"'MARKER'", ..] => Ok(self.take_marker(fields)?),
             [column, row, number] => {
                 let column = self.column_named(alloc, *column)?;
                 self.take_pair(rows, column, *row, *number)
             }
             [column, row, number, second_row, second_number] => {
                 let column = self.column_named(alloc, *column)?;
-                self.take_pair(rows, column, *row, *number)?;
-                self.take_pair(rows, column, *second_row, *second_number)
+                self.take_two(rows, column, *row, *number, *second_row, *second_number)
             }
             _ => Err(Fault::Refused(MpsKind::Fields)),
         }
@@ -102,6 +124,7 @@ impl<'a> Columns<'a> {
     fn take_marker(&mut self, fields: &[&'a [u8]]) -> Result<(), MpsKind>
         ensures table { self.new.table ≡ self.old.table }
         ensures current { OnOk result (self.new.current ≡ None) }
+        ensures entries { self.new.entries ≡ self.old.entries }
         ensures ok { OnOk result ((l : Line) → l.fields ≡ map (λ f. f.now) fields.now → (marker_kind l ≡ None) × (self.new.in_integer_part ≡ bytes_eq (field 2 l) (codes "'INTORG'"))) }
         ensures err { IfErr result (λ kind. (l : Line) → l.fields ≡ map (λ f. f.now) fields.now → marker_kind l ≡ Some kind) }
     {
@@ -113,20 +136,46 @@ impl<'a> Columns<'a> {
         Ok(())
     }
 
+    // Whether a line that names this column continues the current one.
+    fn continues(&self, field: &[u8]) -> bool
+        ensures { result ≡ is_name (option_map (λ c. c.now) self.now.current) field.now }
+    {
+        match self.current {
+            Some(current) => current == field,
+            None => false,
+        }
+    }
+
     // The number of the column that a line names: the current one, or a new one.
     fn column_named(&mut self, alloc: Global, field: &'a [u8]) -> Result<u32, Fault>
         requires { 0 < length field.now }
         ensures within { IfOk result (λ k. k < vec_len self.new.table.items) }
-        ensures same { self.new.in_integer_part ≡ self.old.in_integer_part }
-        ensures last { IfOk result (λ k. k + 1 ≡ vec_len self.new.table.items) }
-        ensures current { OnOk result (option_map (λ c. c.now) self.new.current ≡ Some field.entry.now) }
-        ensures names { OnOk result ((map (λ k. k.now) self.new.table.names.keys ≡ map (λ k. k.now) self.old.table.names.keys) ⊎ (map (λ k. k.now) self.new.table.names.keys ≡ map (λ k. k.now) self.old.table.names.keys ++ field.entry.now ∷ [])) }
-        ensures err { IfErr result (λ fault. IsFault fault (new_column_kind (map (λ k. k.now) self.old.table.names.keys) (vec_len self.old.table.items) field.entry.now)) }
+        ensures size { IfOk result (λ k. length (texts_of self.new.table.names.keys) ≡ k + 1) }
+        ensures good { OnOk result ((earlier : List Line) (l : Line) → IsColumnLine l field.entry.now → ColumnsReady (texts_of self.old.table.names.keys) (option_map (λ c. c.now) self.old.current) self.old.in_integer_part earlier → name_kind earlier l ≡ None) }
+        ensures ready { OnOk result ((earlier : List Line) (l : Line) → IsColumnLine l field.entry.now → ColumnsReady (texts_of self.old.table.names.keys) (option_map (λ c. c.now) self.old.current) self.old.in_integer_part earlier → ColumnsReady (texts_of self.new.table.names.keys) (option_map (λ c. c.now) self.new.current) self.new.in_integer_part (earlier ++ l ∷ [])) }
+        ensures added { OnOk result ((earlier : List Line) (l : Line) → IsColumnLine l field.entry.now → ColumnsReady (texts_of self.old.table.names.keys) (option_map (λ c. c.now) self.old.current) self.old.in_integer_part earlier → AddsColumn (begins_column earlier l) (texts_of self.old.table.names.keys) self.old.table.items.items (texts_of self.new.table.names.keys) self.new.table.items.items self.old.in_integer_part field.entry.now) }
+        ensures entries { self.new.entries ≡ self.old.entries }
+        ensures err { IfErr result (λ fault. (earlier : List Line) (l : Line) → IsColumnLine l field.entry.now → ColumnsReady (texts_of self.old.table.names.keys) (option_map (λ c. c.now) self.old.current) self.old.in_integer_part earlier → IsFault fault (name_kind earlier l)) }
     {
         let count = self.table.items.len();
-        if self.current == Some(field) && count > 0 {
+        if self.continues(field) && count > 0 {
             return Ok((count - 1) as u32);
         }
+        self.begin_column(alloc, field)
+    }
+
+    // The number of a new column.
+    fn begin_column(&mut self, alloc: Global, field: &'a [u8]) -> Result<u32, Fault>
+        requires { 0 < length field.now }
+        ensures within { IfOk result (λ k. k < vec_len self.new.table.items) }
+        ensures last { IfOk result (λ k. k + 1 ≡ vec_len self.new.table.items) }
+        ensures current { OnOk result (option_map (λ c. c.now) self.new.current ≡ Some field.entry.now) }
+        ensures part { self.new.in_integer_part ≡ self.old.in_integer_part }
+        ensures entries { self.new.entries ≡ self.old.entries }
+        ensures pushed { OnOk result (IsColumnPushed (texts_of self.old.table.names.keys) self.old.table.items.items (texts_of self.new.table.names.keys) self.new.table.items.items self.old.in_integer_part field.entry.now) }
+        ensures err { IfErr result (λ fault. IsFault fault (new_column_kind (texts_of self.old.table.names.keys) (length self.old.table.items.items) field.entry.now)) }
+    {
+        let count = self.table.items.len();
         let name = name_of(alloc, field)?;
         if self.table.find(field).is_some() {
             return Err(Fault::Refused(MpsKind::Duplicate));
@@ -154,7 +203,17 @@ impl<'a> Columns<'a> {
         number: &[u8],
     ) -> Result<(), Fault>
         requires { column < vec_len self.old.table.items }
-        ensures { vec_len self.new.table.items ≡ vec_len self.old.table.items }
+        ensures ok { OnOk result (TakesTerms rows.old.table.names.keys column rows.old.table.items.items self.old.entries rows.new.table.items.items self.new.entries (row.now ∷ number.now ∷ [])) }
+        ensures sides { IsAlong HasSameSides rows.old.table.items.items rows.new.table.items.items }
+        ensures names { rows.new.table.names ≡ rows.old.table.names }
+        ensures kept { rows.new.kept ≡ rows.old.kept }
+        ensures objective { rows.new.has_objective ≡ rows.old.has_objective }
+        ensures columns { IsAlong HasSameBounds self.old.table.items.items self.new.table.items.items }
+        ensures same { vec_len self.new.table.items ≡ vec_len self.old.table.items }
+        ensures called { self.new.table.names ≡ self.old.table.names }
+        ensures current { self.new.current ≡ self.old.current }
+        ensures part { self.new.in_integer_part ≡ self.old.in_integer_part }
+        ensures err { IfErr result (λ fault. RefusesTerms rows.old.table.names.keys column rows.old.table.items.items self.old.entries (row.now ∷ number.now ∷ []) fault) }
     {
         let index = rows.table.find(row).ok_or(MpsKind::UnknownRow)?;
         let table = &mut rows.table;
@@ -178,6 +237,42 @@ impl<'a> Columns<'a> {
         }
         Ok(())
     }
+
+    // Two numbers of a column, one after the other.
+    fn take_two(
+        &mut self,
+        rows: &mut Rows<'a>,
+        column: u32,
+        row: &[u8],
+        number: &[u8],
+        second_row: &[u8],
+        second_number: &[u8],
+    ) -> Result<(), Fault>
+        requires { column < vec_len self.old.table.items }
+        ensures ok { OnOk result (TakesTerms rows.old.table.names.keys column rows.old.table.items.items self.old.entries rows.new.table.items.items self.new.entries (row.now ∷ number.now ∷ second_row.now ∷ second_number.now ∷ [])) }
+        ensures sides { IsAlong HasSameSides rows.old.table.items.items rows.new.table.items.items }
+        ensures names { rows.new.table.names ≡ rows.old.table.names }
+        ensures kept { rows.new.kept ≡ rows.old.kept }
+        ensures objective { rows.new.has_objective ≡ rows.old.has_objective }
+        ensures columns { IsAlong HasSameBounds self.old.table.items.items self.new.table.items.items }
+        ensures called { self.new.table.names ≡ self.old.table.names }
+        ensures current { self.new.current ≡ self.old.current }
+        ensures part { self.new.in_integer_part ≡ self.old.in_integer_part }
+        ensures err { IfErr result (λ fault. RefusesTerms rows.old.table.names.keys column rows.old.table.items.items self.old.entries (row.now ∷ number.now ∷ second_row.now ∷ second_number.now ∷ []) fault) }
+    {
+        self.take_pair(rows, column, row, number)?;
+        self.take_pair(rows, column, second_row, second_number)
+    }
+}
+
+// Whether a line is a marker.
+fn names_marker(fields: &[&[u8]]) -> bool
+    ensures { (l : Line) → l.fields ≡ map (λ f. f.now) fields.now → is_marker l ≡ result }
+{
+    match fields {
+        [_, word, ..] => *word == b"'MARKER'".as_slice(),
+        _ => false,
+    }
 }
 
 // The number that a column gives for a row, None where the row's numbers are not read. `entries` counts the terms
@@ -189,6 +284,7 @@ fn value_for(
     number: &[u8],
 ) -> Result<Option<i64>, MpsKind>
     ensures ok { IfOk result (λ value. (number_for_kind draft.now.role (is_column draft.now.last_column column) entries number.now ≡ None) × (value ≡ (if is_unread draft.now.role then None else Some (number_or_zero number.now)))) }
+    ensures limit { IfOk result (λ value. IfSome value (λ z. unsigned_abs z ≤ 1000000000)) }
     ensures few { IfOk result (λ value. IfSome value (λ z. z ≢ pos 0 → makes_term draft.now.role ≡ true → entries < 100000)) }
     ensures err { IfErr result (λ kind. number_for_kind draft.now.role (is_column draft.now.last_column column) entries number.now ≡ Some kind) }
 {

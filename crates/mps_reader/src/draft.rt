@@ -1,6 +1,15 @@
 // The model of a text, as far as its lines have been read.
-ghost use Rattle.std.specs.Prelude.{◌≡◌, ◌<◌, All, List, length, map, IfOk, IfErr};
-ghost use Rattle.mps_reader.specs.MpsLines.{Line};
+ghost use Rattle.std.specs.Prelude.{◌≡◌, ◌<◌, ◌∷◌, ◌++◌, [], All, List, length, map, codes, bytes_eq, true, false, IfOk, IfErr, OnOk};
+ghost use Rattle.mps_reader.specs.MpsRules.{line_kind, header_kind, data_kind};
+ghost use Rattle.mps_reader.specs.TakenLines.{IsHeaderWith};
+ghost use Rattle.mps_reader.specs.Sections.{word_of};
+ghost use Rattle.mps_reader.specs.Openings.{HeadersAgree};
+ghost use Rattle.mps_reader.specs.Drafts.{Agrees, IsLineBehind, IsTaken, is_ended};
+ghost use Rattle.mps_reader.specs.MpsLines.{Line, column_names};
+ghost use Rattle.mps_reader.specs.Tables.{texts_of};
+ghost use Rattle.mps_reader.specs.ColumnStates.{ColumnsAgree};
+ghost use Rattle.mps_reader.specs.Endings.{IsEndedWith};
+ghost use Rattle.mps_reader.specs.declared.MpsKind.{MpsKind};
 ghost use Rattle.mps_reader.specs.MpsModels.{column_end_kind, end_kind};
 ghost use Rattle.mps_reader.specs.Faults.{IsFault};
 ghost use Rattle.mps_reader.specs.EndedColumns.{IsColumnOf, part_of};
@@ -33,7 +42,9 @@ pub(crate) struct Draft<'a> {
 }
 
 impl<'a> Draft<'a> {
-    pub(crate) fn new(alloc: Global) -> Self {
+    pub(crate) fn new(alloc: Global) -> Self
+        ensures { Agrees result [] }
+    {
         Draft {
             headers: Headers::new(alloc),
             rows: Rows::new(alloc),
@@ -44,18 +55,19 @@ impl<'a> Draft<'a> {
         }
     }
 
-    /// Takes a line by its fields. A line without fields is taken as it is.
+    /// Takes a line by its fields, of which there are some.
     pub(crate) fn take_line(
         &mut self,
         alloc: Global,
         is_header: bool,
         fields: &[&'a [u8]],
     ) -> Result<Progress, Fault>
-        requires { All (λ f. 0 < length f.now) fields.now }
+        requires some { 0 < length fields.now }
+        requires nonempty { All (λ f. 0 < length f.now) fields.now }
+        ensures ok { IfOk result (λ progress. (earlier : List Line) (l : Line) → IsLineBehind is_header earlier l (map (λ f. f.now) fields.now) → Agrees self.old earlier → IsTaken self.new progress earlier l) }
+        ensures ended { IfOk result (λ progress. is_ended progress ≡ true → (self.new.rows ≡ self.old.rows) × (self.new.columns ≡ self.old.columns)) }
+        ensures err { IfErr result (λ fault. (earlier : List Line) (l : Line) → IsLineBehind is_header earlier l (map (λ f. f.now) fields.now) → Agrees self.old earlier → IsFault fault (line_kind earlier l)) }
     {
-        if fields.is_empty() {
-            return Ok(Progress::More);
-        }
         if is_header {
             return self.take_header(fields);
         }
@@ -65,16 +77,19 @@ impl<'a> Draft<'a> {
 
     fn take_header(&mut self, fields: &[&'a [u8]]) -> Result<Progress, Fault>
         requires { 0 < length fields.now }
+        ensures ok { IfOk result (λ progress. (earlier : List Line) (l : Line) → IsHeaderWith l (map (λ f. f.now) fields.now) → HeadersAgree self.old.headers earlier → (header_kind earlier l ≡ None) × (is_ended progress ≡ bytes_eq l.section (codes "ENDATA")) × HeadersAgree self.new.headers (earlier ++ l ∷ [])) }
+        ensures same { self.new ≡ record self.old { headers = self.new.headers } }
+        ensures err { IfErr result (λ fault. (earlier : List Line) (l : Line) → IsHeaderWith l (map (λ f. f.now) fields.now) → HeadersAgree self.old.headers earlier → IsFault fault (header_kind earlier l)) }
     {
-        match self.headers.enter(fields)? {
-            Section::EndData => Ok(Progress::Ended),
-            _ => Ok(Progress::More),
-        }
+        let section = self.headers.enter(fields)?;
+        Ok(progress_at(section))
     }
 
     fn take_data(&mut self, alloc: Global, fields: &[&'a [u8]]) -> Result<(), Fault>
         requires some { 0 < length fields.now }
         requires nonempty { All (λ f. 0 < length f.now) fields.now }
+        ensures ok { OnOk result ((earlier : List Line) (l : Line) → IsLineBehind false earlier l (map (λ f. f.now) fields.now) → Agrees self.old earlier → (data_kind earlier l ≡ None) × Agrees self.new (earlier ++ l ∷ [])) }
+        ensures err { IfErr result (λ fault. (earlier : List Line) (l : Line) → IsLineBehind false earlier l (map (λ f. f.now) fields.now) → Agrees self.old earlier → IsFault fault (data_kind earlier l)) }
     {
         match self.headers.last() {
             Some(Section::ObjSense) => Ok(self.headers.take_direction(fields)?),
@@ -96,7 +111,9 @@ impl<'a> Draft<'a> {
     }
 
     /// The model, once the text has ended.
-    pub(crate) fn into_model(self, alloc: Global) -> Result<Model, Fault> {
+    pub(crate) fn into_model(self, alloc: Global) -> Result<Model, Fault>
+        ensures ended { (ls : List Line) (kind : MpsKind) → ColumnsAgree (texts_of self.entry.columns.table.names.keys) self.entry.columns.table.items.items ls → texts_of self.entry.columns.table.names.keys ≡ column_names ls → end_kind ls (column_names ls) ≡ Some kind → IsEndedWith kind result }
+    {
         let Draft {
             headers,
             rows,
@@ -114,6 +131,22 @@ impl<'a> Draft<'a> {
             direction: headers.direction(),
         };
         Model::build(alloc, parts).map_err(fault_of)
+    }
+}
+
+// Whether a header is the end of the text.
+fn progress_at(section: Section) -> Progress
+    ensures { is_ended result ≡ bytes_eq (word_of section) (codes "ENDATA") }
+{
+    match section {
+        Section::EndData => Progress::Ended,
+        Section::Name
+        | Section::ObjSense
+        | Section::Rows
+        | Section::Columns
+        | Section::Rhs
+        | Section::Ranges
+        | Section::Bounds => Progress::More,
     }
 }
 

@@ -3,6 +3,7 @@ ghost use Rattle.std.specs.Prelude.{◌≡◌, ◌<◌, ◌≤◌, option_map, �
 ghost use Rattle.num_text.specs.NumberText.{number_of};
 ghost use Rattle.mps_reader.specs.MpsRules.{number_kind, is_long, is_second};
 ghost use Rattle.mps_reader.specs.Faults.{IsFault};
+ghost use Rattle.mps_reader.specs.Endings.{error_at};
 ghost use Rattle.mps_reader.specs.Sets.{AgreesWith, is_other};
 ghost use Rattle.std.specs.List.{cons_option};
 ghost use Rattle.mps_reader.specs.declared.fault.Fault.TheVariants as fault;
@@ -21,7 +22,9 @@ pub(crate) enum Fault {
 
 impl Fault {
     /// The error of the whole text, where the fault came at this line.
-    pub(crate) fn at(self, line: u32) -> MpsError {
+    pub(crate) fn at(self, line: u32) -> MpsError
+        ensures { result ≡ error_at line self }
+    {
         match self {
             Fault::Refused(kind) => MpsError::Line { line, kind },
             Fault::Memory => MpsError::Memory,

@@ -6,7 +6,14 @@
 //! model or is the first one that offends, and then its first offence is told.
 #![tactic(auto)]
 
-ghost use Rattle.std.specs.Prelude.{◌≡◌, ◌≤◌, ◌+◌, length};
+ghost use Rattle.std.specs.Prelude.{◌≡◌, ◌≤◌, ◌+◌, ℕ, List, length};
+ghost use Rattle.mps_reader.specs.MpsLines.{Line, column_names};
+ghost use Rattle.mps_reader.specs.MpsModels.{model_of, end_kind};
+ghost use Rattle.mps_reader.specs.Tables.{texts_of};
+ghost use Rattle.mps_reader.specs.ColumnStates.{ColumnsAgree};
+ghost use Rattle.mps_reader.specs.Endings.{IsRefusedWith};
+ghost use Rattle.mps_reader.specs.declared.MpsKind.{MpsKind};
+ghost use Rattle.mps_reader.specs.MpsLines as lines;
 ghost use Rattle.mps_reader.specs.declared.MpsError.TheVariants as refused;
 
 mod bounds;
@@ -15,12 +22,13 @@ mod draft;
 mod fault;
 mod header;
 mod named;
+mod row_draft;
 mod rows;
 mod sides;
 
 use crate::draft::{Draft, Progress};
 use int_model::Model;
-use num_text::{Lines, is_blank, read_fields};
+use num_text::{Lines, is_blank, is_read, read_fields};
 use std::alloc::{AllocError, Global};
 use thiserror::Error;
 
@@ -84,22 +92,20 @@ pub const MAX_BYTES: usize = 16_777_216;
 /// The model of a text of at most 16,777,216 bytes, or the first line that offends.
 pub fn read_model(alloc: Global, bytes: &[u8]) -> Result<Model, MpsError>
     requires { length bytes.now ≤ 16777216 }
+    ensures refused { (refusal : ℕ × MpsKind) → model_of bytes.now ≡ Err refusal → IsRefusedWith refusal result }
 {
     let mut draft = Draft::new(alloc);
     let mut fields = Vec::new(alloc);
     let mut number: u32 = 0;
     for line in Lines::new(bytes) {
         number += 1;
-        let [first, ..] = line else {
-            continue;
-        };
-        if *first == b'*' {
+        if !is_read(line) {
             continue;
         }
         read_fields(line, &mut fields)?;
-        match draft.take_line(alloc, !is_blank(*first), &fields) {
+        match draft.take_line(alloc, is_header(line), &fields) {
             Ok(Progress::More) => {}
-            Ok(Progress::Ended) => return draft.into_model(alloc).map_err(|fault| fault.at(number)),
+            Ok(Progress::Ended) => return model_at(alloc, draft, number),
             Err(fault) => return Err(fault.at(number)),
         }
     }
@@ -107,4 +113,24 @@ pub fn read_model(alloc: Global, bytes: &[u8]) -> Result<Model, MpsError>
         line: number + 1,
         kind: MpsKind::NoEnd,
     })
+}
+
+// The model of a draft, whose text ended at this line.
+fn model_at(alloc: Global, draft: Draft, line: u32) -> Result<Model, MpsError>
+    ensures ended { (ls : List Line) (kind : MpsKind) → ColumnsAgree (texts_of draft.entry.columns.table.names.keys) draft.entry.columns.table.items.items ls → texts_of draft.entry.columns.table.names.keys ≡ column_names ls → end_kind ls (column_names ls) ≡ Some kind → IsRefusedWith (line, kind) result }
+{
+    match draft.into_model(alloc) {
+        Ok(model) => Ok(model),
+        Err(fault) => Err(fault.at(line)),
+    }
+}
+
+// Whether a line is a header: its first byte is no blank.
+fn is_header(line: &[u8]) -> bool
+    ensures { result ≡ lines.is_header line.now }
+{
+    match line {
+        [first, ..] => !is_blank(*first),
+        [] => false,
+    }
 }

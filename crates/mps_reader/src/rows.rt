@@ -5,36 +5,16 @@ ghost use Rattle.mps_reader.specs.MpsRules.{row_kind};
 ghost use Rattle.mps_reader.specs.Faults.{IsFault};
 ghost use Rattle.mps_reader.specs.TakenLines.{IsDataWith};
 ghost use Rattle.mps_reader.specs.RowTables.{sense_words, sense_after, role_with, RowsReady};
+ghost use Rattle.mps_reader.specs.Tables.{texts_of};
+ghost use Rattle.mps_reader.specs.BegunRows.{IsRowPushed};
 ghost use Rattle.std.specs.Option.{ForSome};
 
 use crate::MpsKind;
 use crate::fault::{Fault, name_of};
 use crate::named::Named;
-use int_model::{Name, Row, RowSense, Terms};
+use crate::row_draft::{RowDraft, RowRole};
+use int_model::{Row, RowSense, Terms};
 use std::alloc::{AllocError, Global};
-
-/// What a row of the text is for.
-#[derive(Clone, Copy, Debug, PartialEq, Eq)]
-pub(crate) enum RowRole {
-    /// The first N row.
-    Objective,
-    /// A further N row, whose numbers are not read.
-    Dropped,
-    Kept(RowSense),
-}
-
-/// A row of the text, as far as it has been read.
-#[derive(Drop)]
-pub(crate) struct RowDraft {
-    pub(crate) name: Name,
-    pub(crate) role: RowRole,
-    pub(crate) rhs: Option<i64>,
-    pub(crate) range: Option<i64>,
-    /// The last column that gave a number for this row.
-    pub(crate) last_column: Option<u32>,
-    pub(crate) terms: Vec<(u32, i64)>,
-    ghost rhs_limit: { ForSome rhs (λ z. unsigned_abs z ≤ 1000000000000000000) },
-}
 
 #[derive(Drop)]
 pub(crate) struct Rows<'a> {
@@ -71,7 +51,12 @@ fn constant_of(rhs: Option<i64>) -> i64
 }
 
 impl<'a> Rows<'a> {
-    pub(crate) fn new(alloc: Global) -> Self {
+    pub(crate) fn new(alloc: Global) -> Self
+        ensures items { result.table.items.items ≡ [] }
+        ensures names { result.table.names.keys ≡ [] }
+        ensures kept { result.kept ≡ 0 }
+        ensures objective { result.has_objective ≡ false }
+    {
         Rows {
             table: Named::new(alloc),
             kept: 0,
@@ -83,6 +68,7 @@ impl<'a> Rows<'a> {
         requires { All (λ f. 0 < length f.now) fields.now }
         ensures kind { OnOk result ((earlier : List Line) (l : Line) → IsDataWith (codes "ROWS") l (map (λ f. f.now) fields.now) → RowsReady self.old.table.names.keys self.old.kept self.old.has_objective earlier → row_kind earlier l ≡ None) }
         ensures ready { OnOk result ((earlier : List Line) (l : Line) → IsDataWith (codes "ROWS") l (map (λ f. f.now) fields.now) → RowsReady self.old.table.names.keys self.old.kept self.old.has_objective earlier → RowsReady self.new.table.names.keys self.new.kept self.new.has_objective (earlier ++ l ∷ [])) }
+        ensures row { OnOk result ((earlier : List Line) (l : Line) → IsDataWith (codes "ROWS") l (map (λ f. f.now) fields.now) → RowsReady self.old.table.names.keys self.old.kept self.old.has_objective earlier → IsRowPushed (texts_of self.old.table.names.keys) self.old.table.items.items (texts_of self.new.table.names.keys) self.new.table.items.items earlier l) }
         ensures err { IfErr result (λ fault. (earlier : List Line) (l : Line) → IsDataWith (codes "ROWS") l (map (λ f. f.now) fields.now) → RowsReady self.old.table.names.keys self.old.kept self.old.has_objective earlier → IsFault fault (row_kind earlier l)) }
     {
         let [word, field] = fields else {
