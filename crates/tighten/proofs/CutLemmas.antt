@@ -17,14 +17,14 @@ use Rattle.tighten.specs.declared.narrowing.Narrowing.{Narrowing}
 
 -- ---- the product of a coefficient and a width
 
-spread_limit : (a l h : ℤ) → IsEntry a → IsBound l → IsBound h → unsigned_abs (pos (unsigned_abs a) *ℤ (h -ℤ l)) ≤ 2 * 10 ^ 15
-spread_limit a l h ha hl hh =
+pub spread-limit : (a l h : ℤ) → IsEntry a → IsBound l → IsBound h → unsigned_abs (pos (unsigned_abs a) *ℤ (h -ℤ l)) ≤ 2 * 10 ^ 15
+spread-limit a l h ha hl hh =
     let width : unsigned_abs (h -ℤ l) ≤ 2 * 10 ^ 6 = omega (arith, ints, hl, hh) in
     let size : unsigned_abs (pos (unsigned_abs a)) ≤ 10 ^ 9 = omega (arith, ints, ha) in
     rw unsigned_abs-mul (mul-le-mul size width)
 
 pub spread-fits : (a l h : ℤ) → IsEntry a → IsBound l → IsBound h → FitsSigned w64 (pos (unsigned_abs a) *ℤ (h -ℤ l))
-spread-fits a l h ha hl hh = fits_signed_from_abs w64 _ (omega (arith, spread_limit a l h ha hl hh))
+spread-fits a l h ha hl hh = fits_signed_from_abs w64 _ (omega (arith, spread-limit a l h ha hl hh))
 
 -- ---- an interval that a row leaves alone
 

@@ -183,7 +183,7 @@ not_less i o = grind (arith, ints, o)
 with-left : (box : Box) (j : ℕ) (i : Interval) → int_lt i.high i.low ≡ false → with_interval box j i ≡ Some (slice_set box j i)
 with-left box j i e = rw e refl
 
-same-left : (box : Box) (j : ℕ) (left : Interval) → is_empty box ≡ false → left ≡ interval_at box j → with_interval box j left ≡ Some box
+pub same-left : (box : Box) (j : ℕ) (left : Interval) → is_empty box ≡ false → left ≡ interval_at box j → with_interval box j left ≡ Some box
 same-left box j left o e =
     let ordered_left : left.low ≤ℤ left.high = subst (λ (i : Interval). i.low ≤ℤ i.high) (sym e) (ordered box j o) in
     with-left box j left (not_less left ordered_left) ∙ ap (λ (b : Box). Some b) (ap (slice_set box j) e ∙ set-get_or box j (record { low = pos 0; high = pos 0 }))
@@ -240,6 +240,7 @@ tightens-less m ends before mid now step low high s h cut moves kept =
         trail = ap (λ (t : Vec Change Global). t.items) kept.trail ∙ moves.trail;
         back = ap (λ (b : Box). slice_set b step.column (interval_at (box_in before) step.column)) moved ∙ set_back (box_in before) step.column (interval low high);
       };
+      count = omega arith;
     }
 
 -- a step that leaves nothing
@@ -253,6 +254,7 @@ tightens-empty m ends before now step h cut kept =
       leads = then_some (tightened (rows_of m) ends step (box_in before)) ∙ none;
       kept = kept.steps;
       follows = follows-same before now (kept_box step before now kept) (ap (λ (t : Vec Change Global). t.items) kept.trail);
+      count = omega arith;
     }
 
 -- ---- what calls hand on

@@ -8,3 +8,4 @@ pub mod CutLemmas
 pub mod SumLists
 pub mod StepRuns
 pub mod EngineLemmas
+pub mod StillLemmas

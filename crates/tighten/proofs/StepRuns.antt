@@ -2,7 +2,7 @@
 use Rattle.std.specs.Prelude.{◌≡◌, ◌≢◌, ℕ, zero, suc, ◌≤◌, Bool, true, List, [], ◌∷◌, ◌++◌, length, take, slice_get, slice_set, Option, Some, None, option_and_then, refl}
 use Rattle.std.specs.List.{All}
 use Rattle.std.proofs.Common.{arith, ap, sym, ◌∙◌, subst, append_assoc}
-use Rattle.std.proofs.lemmas.List.{append-nil, take_all}
+use Rattle.std.proofs.lemmas.List.{append-nil, length-append, take_all}
 use Rattle.std.proofs.lemmas.List.Elements.{All-nil, All-append}
 use Rattle.int_model.specs.Boxes.{Box}
 use Rattle.int_model.specs.Programs.{Terms}
@@ -90,10 +90,10 @@ pub restored-append : (changes more : List Change) (box : Box) → restored (cha
 restored-append [] more box = refl
 restored-append (c ∷ changes) more box = ap (λ (b : Box). slice_set b c.column (interval c.low c.high)) (restored-append changes more box)
 
-pub follows-same : (before now : Engine) → box_in now ≡ box_in before → now.trail.items ≡ before.trail.items → Follows before now
+abbrev pub follows-same : (before now : Engine) → box_in now ≡ box_in before → now.trail.items ≡ before.trail.items → Follows before now
 follows-same before now e f = record { added = []; trail = f ∙ sym (append-nil before.trail.items); back = e }
 
-pub follows-trans : (first next last : Engine) → Follows first next → Follows next last → Follows first last
+abbrev pub follows-trans : (first next last : Engine) → Follows first next → Follows next last → Follows first last
 follows-trans first next last h k = record {
   added = h.added ++ k.added;
   trail = k.trail ∙ ap (λ (t : List Change). t ++ k.added) h.trail ∙ append_assoc first.trail.items h.added k.added;
@@ -110,6 +110,7 @@ tightens-none m ends before now few s = record {
   leads = ap (λ (b : Box). Some b) (sym s.bounds);
   kept = s.steps ∙ take-none before.steps.items 128 few;
   follows = follows-same before now s.bounds s.trail;
+  count = omega arith;
 }
   where
     no_step : (k : ℕ) (step : Step) → slice_get [] k ≡ Some step → ⊥
@@ -123,4 +124,5 @@ tightens-trans m ends first next last is_occupied h k = record {
   leads = tightened_by-append (rows_of m) ends h.taken k.taken (box_in first) (box_in next) h.leads ∙ k.leads;
   kept = k.kept ∙ ap (λ (s : List Step). take 128 (s ++ k.taken)) h.kept ∙ take-again 128 (first.steps.items ++ h.taken) k.taken ∙ ap (take 128) (append_assoc first.steps.items h.taken k.taken);
   follows = follows-trans first next last h.follows k.follows;
+  count = omega (arith, length-append h.follows.added k.follows.added, length-append h.taken k.taken, h.count, k.count);
 }

@@ -44,7 +44,7 @@ others-set f j ((k, a) ∷ ts) box i = others_by f j k a ts box i (others-set f 
 
 -- ---- one product
 
-sign_of : (a : ℤ) → ((pos 0 <ℤ a) × (int_lt (pos 0) a ≡ true)) ⊎ ((a ≤ℤ pos 0) × (int_lt (pos 0) a ≡ false))
+pub sign_of : (a : ℤ) → ((pos 0 <ℤ a) × (int_lt (pos 0) a ≡ true)) ⊎ ((a ≤ℤ pos 0) × (int_lt (pos 0) a ≡ false))
 sign_of a = grind (arith, ints)
 
 change-above : (u v a : ℤ) → int_lt (pos 0) a ≡ true → change u v a ≡ a *ℤ u

@@ -1,5 +1,5 @@
 -- The engine's box, the trail of its changes, and the steps that it takes.
-use Rattle.std.specs.Prelude.{◌≡◌, ◌≢◌, ℕ, ◌<◌, ◌≤◌, ℤ, ◌≤ℤ◌, Bool, true, false, if◌then◌else◌, List, [], ◌∷◌, ◌++◌, length, take, slice_get, slice_set, Option, Some, None, Result, Ok, Err, All, vec_capacity}
+use Rattle.std.specs.Prelude.{◌≡◌, ◌≢◌, ℕ, ◌<◌, ◌≤◌, ℤ, ◌≤ℤ◌, Bool, true, false, if◌then◌else◌, List, [], ◌∷◌, ◌++◌, length, take, slice_get, slice_index_or, slice_set, Option, Some, None, Result, Ok, Err, All, vec_capacity}
 use Rattle.std.specs.declared.alloc.AllocError.{AllocError}
 use Rattle.int_model.specs.Limits.{IsBound}
 use Rattle.int_model.specs.Boxes.{Box, box_of, interval_at, is_empty}
@@ -8,10 +8,11 @@ use Rattle.int_model.specs.Models.{IntegerModel}
 use Rattle.int_model.specs.declared.model.Ends.{Ends}
 use Rattle.tighten.specs.declared.engine.Change.{Change}
 use Rattle.tighten.specs.declared.engine.Engine.{Engine}
+use Rattle.tighten.specs.declared.step.RowEnd.{RowEnd}
 use Rattle.tighten.specs.declared.step.Step.{Step}
 use Rattle.tighten.specs.Cuts.{interval}
 use Rattle.tighten.specs.Queues.{IsQueue}
-use Rattle.tighten.specs.Replay.{tightened, tightened_by}
+use Rattle.tighten.specs.Replay.{left_of, tightened, tightened_by}
 use Rattle.tighten.specs.Steps.{IsStep, rows_of}
 use Rattle.tighten.specs.Sums.{AreLeast, AreGreatest}
 
@@ -106,11 +107,46 @@ pub record Tightens (m : IntegerModel) (ends : List Ends) (before : Engine) (is_
   pub leads : tightened_by (rows_of m) ends taken (box_in before) ≡ (if is_occupied then Some (box_in now) else None)
   pub kept : now.steps.items ≡ take 128 (before.steps.items ++ taken)
   pub follows : Follows before now
+  pub count : length follows.added ≤ length taken
 
 -- want of memory comes after some of the steps
 abbrev pub IsTightened : IntegerModel → List Ends → Engine → Result Bool AllocError → Engine → Type 0
 IsTightened m ends before (Ok is_occupied) now = Tightens m ends before is_occupied now
 IsTightened m ends before (Err _) now = Tightens m ends before true now
+
+-- ---- steps that change nothing
+
+-- a step leaves the interval of its column as it is
+abbrev pub Leaves : List Terms → List Ends → Step → Box → Type 0
+Leaves rows ends step box = left_of rows ends step box ≡ interval_at box step.column
+
+-- both ends of a row leave the interval of column j as it is, and those of each column
+abbrev pub ColumnStays : List Terms → List Ends → ℕ → ℕ → Box → Type 0
+ColumnStays rows ends i j box = (side : RowEnd) → Leaves rows ends (record { row = i; column = j; side = side }) box
+
+abbrev pub RowStays : List Terms → List Ends → ℕ → Box → Type 0
+RowStays rows ends i box = (j : ℕ) → ColumnStays rows ends i j box
+
+-- where no memory was wanting, no interval became empty and none was changed, the queue is as before, and P holds
+abbrev pub IsStill : Type 0 → Engine → Result Bool AllocError → Engine → Type 0
+IsStill P before (Ok true) now = length now.trail.items ≡ length before.trail.items → P × (now.queue ≡ before.queue)
+IsStill P before (Ok false) now = Unit {0}
+IsStill P before (Err _) now = Unit {0}
+
+-- all rows are queued, the first one first
+pub record IsFresh (m : IntegerModel) (e : Engine) : Type 0 where
+  pub count : length e.queue.rows.items ≡ length m.rows
+  pub order : (k : ℕ) → k < length m.rows → slice_index_or e.queue.rows.items k 0 ≡ k
+
+-- every step leaves the box as it is
+abbrev pub IsSettled : IntegerModel → List Ends → Box → Type 0
+IsSettled m ends box = (step : Step) → IsStep m step → tightened (rows_of m) ends step box ≡ Some box
+
+-- where no memory was wanting, no interval became empty and none was changed, every step leaves the box as it is
+abbrev pub IsAtRest : IntegerModel → List Ends → Engine → Result Bool AllocError → Engine → Type 0
+IsAtRest m ends before (Ok true) now = length now.trail.items ≡ length before.trail.items → IsSettled m ends (box_in before)
+IsAtRest m ends before (Ok false) now = Unit {0}
+IsAtRest m ends before (Err _) now = Unit {0}
 
 -- ---- proposals
 

@@ -1,17 +1,17 @@
 // The engine of bound tightening: a box whose rows' sums are kept while its intervals change.
-ghost use Rattle.std.specs.Prelude.{◌≡◌, ◌<◌, ◌≤◌, ◌≤ℤ◌, [], ◌++◌, ◌∷◌, drop, take, length, slice_index_or, slice_set, IfOk, false, vec_capacity};
+ghost use Rattle.std.specs.Prelude.{◌≡◌, ◌<◌, ◌≤◌, ◌-ℤ◌, ◌*ℤ◌, ◌≤ℤ◌, pos, unsigned_abs, [], ◌++◌, ◌∷◌, drop, take, length, slice_index_or, slice_set, IfOk, false, vec_capacity};
 ghost use Rattle.int_model.specs.Boxes.{interval_at, is_empty};
-ghost use Rattle.int_model.specs.Limits.{IsBound};
+ghost use Rattle.int_model.specs.Limits.{IsBound, IsEntry};
 ghost use Rattle.int_model.specs.RowSums as row_sums;
-ghost use Rattle.tighten.specs.Cuts.{IsCut, interval};
+ghost use Rattle.tighten.specs.Cuts.{IsCut, IsSlack, interval, no_ends};
 ghost use Rattle.tighten.specs.Replay.{left_of};
 ghost use Rattle.tighten.specs.Steps.{AreEnds, IsStep, rows_of};
-ghost use Rattle.tighten.specs.Engines.{IsSized, IsLoaded, IsSet, IsTightened, IsKept, Follows, box_in, restored};
+ghost use Rattle.tighten.specs.Engines.{IsSized, IsLoaded, IsSet, IsTightened, IsKept, IsStill, IsFresh, IsAtRest, Leaves, ColumnStays, RowStays, Follows, box_in, restored};
 ghost use Rattle.tighten.specs.declared.engine.Engine.{Engine};
 
 use crate::narrowing::Narrowing;
 use crate::row_queue::RowQueue;
-use crate::slack::{above, below};
+use crate::slack::{above, below, slack, spread};
 use crate::{RowEnd, Step, sums};
 use int_model::{Ends, Model, PointBox};
 use std::alloc::{AllocError, Global};
@@ -67,6 +67,7 @@ impl Engine {
         ensures bounds { box_in self.new ≡ bounds.now }
         ensures trail { self.new.trail.items ≡ [] }
         ensures steps { self.new.steps.items ≡ [] }
+        ensures fresh { IsFresh model.now self.new }
     {
         let _columns = model.columns();
         self.low.copy_from_slice(bounds.lows());
@@ -190,6 +191,7 @@ impl Engine {
         requires ends { AreEnds model.now ends.now }
         ensures loaded { IsLoaded model.now self.new }
         ensures steps { IsTightened model.now ends.now self.old result self.new }
+        ensures rest { IsFresh model.now self.old → length model.now.rows ≤ rows → length self.old.trail.items < changes → IsAtRest model.now ends.now self.old result self.new }
     {
         'rows: for _ in 0..rows {
             let Some(row) = self.queue.take() else {
@@ -216,22 +218,63 @@ impl Engine {
         requires row { row < length model.now.rows }
         ensures loaded { IsLoaded model.now self.new }
         ensures steps { IsTightened model.now ends.now self.old result self.new }
+        ensures still { length self.old.trail.items < changes → IsStill (RowStays (rows_of model.now) ends.now row (box_in self.old)) self.old result self.new }
     {
-        let place = row as usize;
-        if is_redundant(self.least[place], self.most[place], ends[place]) {
+        let _columns = model.columns();
+        let mut slack = self.slack_of(model, ends, row);
+        if self.reach_of(model, row) <= slack {
             return Ok(true);
         }
         let line = model.row(row);
         let terms = line.terms.as_slice();
         for &(column, coefficient) in terms {
+            if self.spread_of(model, column, coefficient) <= slack {
+                continue;
+            }
             if self.trail.len() >= changes {
                 return Ok(true);
             }
             if !self.narrow_column(model, ends, row, column, coefficient)? {
                 return Ok(false);
             }
+            slack = self.slack_of(model, ends, row);
         }
         Ok(true)
+    }
+
+    // A slack that neither end of a row exceeds.
+    fn slack_of(&self, model: &Model, ends: &[Ends], row: u32) -> i64
+        requires loaded { IsLoaded model.now self.now }
+        requires ends { AreEnds model.now ends.now }
+        requires row { row < length model.now.rows }
+        ensures { IsSlack (slice_index_or ends.now row no_ends) (row_sums.least_sum (slice_index_or (rows_of model.now) row []) (box_in self.now)) (row_sums.greatest_sum (slice_index_or (rows_of model.now) row []) (box_in self.now)) result }
+    {
+        let _columns = model.columns();
+        let place = row as usize;
+        slack(ends[place], self.least[place], self.most[place])
+    }
+
+    // How far the least and the greatest sum of a row lie apart.
+    fn reach_of(&self, model: &Model, row: u32) -> i64
+        requires loaded { IsLoaded model.now self.now }
+        requires row { row < length model.now.rows }
+        ensures { result ≡ row_sums.greatest_sum (slice_index_or (rows_of model.now) row []) (box_in self.now) -ℤ row_sums.least_sum (slice_index_or (rows_of model.now) row []) (box_in self.now) }
+    {
+        let _columns = model.columns();
+        let place = row as usize;
+        self.most[place] - self.least[place]
+    }
+
+    // How far the least and the greatest product of a column with this coefficient lie apart.
+    fn spread_of(&self, model: &Model, column: u32, coefficient: i64) -> i64
+        requires loaded { IsLoaded model.now self.now }
+        requires column { column < length model.now.columns }
+        requires coefficient { IsEntry coefficient }
+        ensures { result ≡ pos (unsigned_abs coefficient) *ℤ ((interval_at (box_in self.now) column).high -ℤ (interval_at (box_in self.now) column).low) }
+    {
+        let _columns = model.columns();
+        let place = column as usize;
+        spread(coefficient, self.low[place], self.high[place])
     }
 
     // Narrows the interval of one column of a row by both of its ends. False where it would become empty.
@@ -250,6 +293,7 @@ impl Engine {
         requires coefficient { coefficient ≡ row_sums.coefficient column (slice_index_or (rows_of model.now) row []) }
         ensures loaded { IsLoaded model.now self.new }
         ensures steps { IsTightened model.now ends.now self.old result self.new }
+        ensures still { IsStill (ColumnStays (rows_of model.now) ends.now row column (box_in self.old)) self.old result self.new }
     {
         let upper = Step {
             row,
@@ -282,6 +326,7 @@ impl Engine {
         requires coefficient { coefficient ≡ row_sums.coefficient step.column (slice_index_or (rows_of model.now) step.row []) }
         ensures loaded { IsLoaded model.now self.new }
         ensures steps { IsTightened model.now ends.now self.old result self.new }
+        ensures still { IsStill (Leaves (rows_of model.now) ends.now step (box_in self.old)) self.old result self.new }
     {
         match self.left_by(model, ends, step, coefficient) {
             Narrowing::Same => Ok(true),
@@ -325,17 +370,4 @@ impl Engine {
             self.steps.push_reserved(step);
         }
     }
-}
-
-// Whether a row's ends allow every sum from its least to its greatest.
-fn is_redundant(least: i64, most: i64, ends: Ends) -> bool {
-    let below = match ends.upper {
-        Some(end) => most <= end,
-        None => true,
-    };
-    let above = match ends.lower {
-        Some(end) => end <= least,
-        None => true,
-    };
-    below && above
 }

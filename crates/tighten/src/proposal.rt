@@ -1,10 +1,8 @@
 // Steps of bound tightening that narrow a box.
-ghost use Rattle.std.specs.Prelude.{◌≡◌, ◌≤◌, Some, length, true, OnOk};
+ghost use Rattle.std.specs.Prelude.{◌≡◌, ◌<◌, ◌≤◌, length, true, false, OnOk};
 ghost use Rattle.int_model.specs.Boxes.{is_empty};
-ghost use Rattle.tighten.specs.Replay.{tightened};
-ghost use Rattle.tighten.specs.Steps.{AreEnds, IsStep, rows_of};
-ghost use Rattle.tighten.specs.Engines.{IsProposed};
-ghost use Rattle.tighten.specs.declared.step.Step.{Step};
+ghost use Rattle.tighten.specs.Steps.{AreEnds};
+ghost use Rattle.tighten.specs.Engines.{IsProposed, IsSettled};
 
 use crate::Step;
 use crate::engine::{Engine, MOST_STEPS};
@@ -12,8 +10,8 @@ use int_model::{Ends, Model, PointBox};
 use std::alloc::{AllocError, Global};
 
 /// Appends steps that narrow the box one after another, with the ends of each row, up to 128 steps in
-/// all. No step is appended to an empty box, or where no step narrows it. On want of memory the list is
-/// as before.
+/// all. No step is appended to an empty box; to another one where there is room, none exactly where no
+/// step narrows it. On want of memory the list is as before.
 pub fn propose(
     alloc: Global,
     model: &Model,
@@ -26,7 +24,8 @@ pub fn propose(
     requires few { length steps.old.items ≤ 128 }
     ensures steps { IsProposed model.now ends.now bounds.now steps.old.items result steps.new.items }
     ensures empty { is_empty bounds.now ≡ true → steps.new.items ≡ steps.old.items }
-    ensures settled { ((step : Step) → IsStep model.now step → tightened (rows_of model.now) ends.now step bounds.now ≡ Some bounds.now) → steps.new.items ≡ steps.old.items }
+    ensures settled { IsSettled model.now ends.now bounds.now → steps.new.items ≡ steps.old.items }
+    ensures narrows { OnOk result (steps.new.items ≡ steps.old.items → length steps.old.items < 128 → is_empty bounds.now ≡ false → IsSettled model.now ends.now bounds.now) }
 {
     if bounds.is_empty() {
         return Ok(());

@@ -1,6 +1,6 @@
 // The rows that bound tightening has yet to look at.
-ghost use Rattle.std.specs.Prelude.{◌≡◌, ◌<◌, ◌≤◌, ℕ, ℤ, All, length, IfOk, IfSome};
-ghost use Rattle.tighten.specs.Queues.{IsQueue};
+ghost use Rattle.std.specs.Prelude.{◌≡◌, ◌<◌, ◌≤◌, ℕ, ℤ, All, length, slice_index_or, IfOk, IfSome};
+ghost use Rattle.tighten.specs.Queues.{IsQueue, IsTaken};
 
 use std::alloc::{AllocError, Global};
 use std::collections::VecDeque;
@@ -30,6 +30,8 @@ impl RowQueue {
         requires { IsQueue self.old }
         ensures queue { IsQueue self.new }
         ensures count { length self.new.waits.items ≡ length self.old.waits.items }
+        ensures all { length self.new.rows.items ≡ length self.old.waits.items }
+        ensures order { (k : ℕ) → k < length self.old.waits.items → slice_index_or self.new.rows.items k 0 ≡ k }
     {
         self.rows.clear();
         for row in 0..self.waits.len() {
@@ -71,6 +73,7 @@ impl RowQueue {
         ensures queue { IsQueue self.new }
         ensures count { length self.new.waits.items ≡ length self.old.waits.items }
         ensures row { IfSome result (λ row. row < length self.old.waits.items) }
+        ensures first { IsTaken self.old.rows.items result self.new.rows.items }
     {
         let row = self.rows.pop_front()?;
         self.waits[row as usize] = false;

@@ -1,22 +1,60 @@
 // How far a row's slack narrows the interval of one of its columns.
 ghost use Rattle.std.specs.Prelude.{◌≡◌, ◌*◌, ◌^◌, ◌≤◌, ◌+ℤ◌, ◌-ℤ◌, ◌*ℤ◌, ◌≤ℤ◌, pos, unsigned_abs, IfSome};
 ghost use Rattle.int_model.specs.Limits.{IsBound, IsEntry};
+ghost use Rattle.int_model.specs.Ends.{EndsWithin};
 ghost use Rattle.int_model.specs.RowSums.{least_product};
 ghost use Rattle.tighten.specs.Replay as spec;
-ghost use Rattle.tighten.specs.Cuts.{IsCut, above_end, below_end, interval};
+ghost use Rattle.tighten.specs.Cuts.{IsCut, IsSlack, above_end, below_end, interval};
 
 use crate::narrow::narrow;
 use crate::narrowing::Narrowing;
 use activity::least_of;
+use int_model::Ends;
 
-// How far the least and the greatest product with a number of the interval lie apart.
-fn spread(coefficient: i64, low: i32, high: i32) -> i64
+/// How far the least and the greatest product with a number of the interval lie apart.
+pub fn spread(coefficient: i64, low: i32, high: i32) -> i64
     requires coefficient { IsEntry coefficient }
     requires low { IsBound low }
     requires high { IsBound high }
-    ensures { result ≡ pos (unsigned_abs coefficient) *ℤ (high -ℤ low) }
+    ensures value { result ≡ pos (unsigned_abs coefficient) *ℤ (high -ℤ low) }
+    ensures limit { unsigned_abs result ≤ 2 * 10 ^ 15 }
 {
     coefficient.abs() * (i64::from(high) - i64::from(low))
+}
+
+/// A slack that neither end of a row exceeds: how far its sum may rise above the least one, or fall below
+/// the greatest one.
+pub fn slack(ends: Ends, least: i64, most: i64) -> i64
+    requires ends { EndsWithin (2 * 10 ^ 18) ends }
+    requires least { unsigned_abs least ≤ 10 ^ 18 }
+    requires most { unsigned_abs most ≤ 10 ^ 18 }
+    ensures { IsSlack ends least most result }
+{
+    below_upper(ends.upper, least).min(above_lower(ends.lower, most))
+}
+
+// How far a sum may rise to an upper end.
+fn below_upper(end: Option<i64>, least: i64) -> i64
+    requires end { IfSome end (λ u. unsigned_abs u ≤ 2 * 10 ^ 18) }
+    requires least { unsigned_abs least ≤ 10 ^ 18 }
+    ensures { IfSome end (λ u. result ≡ u -ℤ least) }
+{
+    match end {
+        Some(end) => end - least,
+        None => i64::MAX,
+    }
+}
+
+// How far a sum may fall to a lower end.
+fn above_lower(end: Option<i64>, most: i64) -> i64
+    requires end { IfSome end (λ w. unsigned_abs w ≤ 2 * 10 ^ 18) }
+    requires most { unsigned_abs most ≤ 10 ^ 18 }
+    ensures { IfSome end (λ w. result ≡ most -ℤ w) }
+{
+    match end {
+        Some(end) => most - end,
+        None => i64::MAX,
+    }
 }
 
 /// What is left of an interval where the product of the coefficient and the number may exceed its least

@@ -12,7 +12,7 @@ returns-then-spread-slack c =
     let low_fits : FitsSigned w32 c.args.low = c.ranges.low in
     let high_fits : FitsSigned w32 c.args.high = c.ranges.high in
     let fits = spread-fits c.args.coefficient c.args.low c.args.high c.requires.coefficient c.requires.low c.requires.high in
-    let spread : c.spread.result ≡ pos (unsigned_abs c.args.coefficient) *ℤ (c.args.high -ℤ c.args.low) = simp to_z-of_z at c.spread.ensures in
+    let spread : c.spread.result ≡ pos (unsigned_abs c.args.coefficient) *ℤ (c.args.high -ℤ c.args.low) = simp to_z-of_z at c.spread.ensures.value in
     let spread_fits : FitsSigned w64 c.spread.result = subst (FitsSigned w64) (sym spread) fits in
     let test : c.spread.result ≤ℤ c.args.slack = omega (arith, ints, simp to_z-of_z at c.if-spread-slack.true) in
     cut-none c.args.coefficient c.args.slack c.args.low c.args.high c.spread.result c.requires.occupied spread test
