@@ -1,9 +1,9 @@
 //! Row activities: the least and the greatest sum of a row over a box.
 #![tactic(auto)]
 
-ghost use Rattle.std.specs.Prelude.{◌≡◌, ◌≤◌, ◌^◌, ◌*ℤ◌, unsigned_abs};
+ghost use Rattle.std.specs.Prelude.{◌≡◌, ◌≤◌, ◌^◌, ◌*ℤ◌, ◌≤ℤ◌, unsigned_abs, false};
 ghost use Rattle.int_model.specs.Limits.{IsBound, IsEntry};
-ghost use Rattle.int_model.specs.Boxes.{box_of};
+ghost use Rattle.int_model.specs.Boxes.{box_of, is_empty};
 ghost use Rattle.int_model.specs.RowSums.{least_product, greatest_product, least_sum, greatest_sum};
 ghost use Rattle.activity.specs.Sums.{AreSummed};
 
@@ -67,6 +67,47 @@ pub fn most(terms: &[(u32, i64)], low: &[i32], high: &[i32]) -> i64
         sum += greatest_of(coefficient, low[column], high[column]);
     }
     sum
+}
+
+// The least and the greatest product of a coefficient with a number of an interval that isn't empty.
+fn both_of(coefficient: i64, low: i32, high: i32) -> (i64, i64)
+    requires coefficient { IsEntry coefficient }
+    requires low { IsBound low }
+    requires high { IsBound high }
+    requires occupied { low ≤ℤ high }
+    ensures least { result.0 ≡ least_product coefficient (record { low = low; high = high }) }
+    ensures most { result.1 ≡ greatest_product coefficient (record { low = low; high = high }) }
+    ensures least_limit { unsigned_abs result.0 ≤ 10 ^ 15 }
+    ensures most_limit { unsigned_abs result.1 ≤ 10 ^ 15 }
+{
+    let at_low = product(coefficient, low);
+    let at_high = product(coefficient, high);
+    if coefficient > 0 {
+        (at_low, at_high)
+    } else {
+        (at_high, at_low)
+    }
+}
+
+/// The least and the greatest sum of a row over the box with these ends, which isn't empty, from one
+/// pass over the row's terms.
+pub fn extremes(terms: &[(u32, i64)], low: &[i32], high: &[i32]) -> (i64, i64)
+    requires summed { AreSummed terms.now low.now high.now }
+    requires occupied { is_empty (box_of low.now high.now) ≡ false }
+    ensures least { result.0 ≡ least_sum terms.now (box_of low.now high.now) }
+    ensures most { result.1 ≡ greatest_sum terms.now (box_of low.now high.now) }
+    ensures least_limit { unsigned_abs result.0 ≤ 10 ^ 18 }
+    ensures most_limit { unsigned_abs result.1 ≤ 10 ^ 18 }
+{
+    let mut least = 0;
+    let mut most = 0;
+    for &(column, coefficient) in terms {
+        let column = column as usize;
+        let (low_part, high_part) = both_of(coefficient, low[column], high[column]);
+        least += low_part;
+        most += high_part;
+    }
+    (least, most)
 }
 
 #[cfg(test)]

@@ -1,9 +1,9 @@
 -- Worked examples, by computing.
-use Rattle.std.specs.Prelude.{◌≡◌, ℕ, ℤ, pos, negsuc, List, [], ◌∷◌, Some, None, Option, refl}
+use Rattle.std.specs.Prelude.{◌≡◌, ℕ, ℤ, pos, negsuc, List, [], ◌∷◌, Some, None, refl}
 use Rattle.int_model.specs.Boxes.{Box, box_of}
 use Rattle.int_model.specs.Programs.{Program, Terms}
 use Rattle.int_model.specs.declared.model.Ends.{Ends}
-use Rattle.tighten.specs.Replay.{narrowed, left_by, tightened, tightened_by, replay}
+use Rattle.tighten.specs.Replay.{tightened, replay}
 use Rattle.tighten.specs.declared.step.Step.{Step}
 use Rattle.tighten.specs.declared.step.RowEnd.{RowEnd}
 use Rattle.tighten.specs.declared.step.RowEnd.TheVariants.{Lower, Upper}

@@ -3,4 +3,9 @@ pub mod OtherTerms
 pub mod NarrowLemmas
 pub mod StepLemmas
 pub mod Examples
-pub mod ListLemmas
+pub mod SumChanges
+pub mod CutLemmas
+pub mod SumLists
+pub mod StepRuns
+pub mod EngineLemmas
+pub mod StillLemmas

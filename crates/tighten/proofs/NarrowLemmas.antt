@@ -1,5 +1,5 @@
 -- What an end leaves of an interval, by the numbers that the code takes.
-use Rattle.std.specs.Prelude.{◌≡◌, ℕ, zero, suc, ◌*◌, ◌^◌, ◌<◌, ◌≤◌, ℤ, pos, negsuc, ◌-ℤ◌, neg_ℤ, ◌≤ℤ◌, ◌<ℤ◌, unsigned_abs, int_lt, false, List, [], ◌∷◌, length, slice_index_or, Option, Some, None, refl}
+use Rattle.std.specs.Prelude.{◌≡◌, ℕ, zero, suc, ◌<◌, ℤ, pos, negsuc, ◌-ℤ◌, neg_ℤ, ◌≤ℤ◌, ◌<ℤ◌, int_lt, false, List, length, slice_index_or, Option, Some, refl}
 use Rattle.std.proofs.Common.{arith, ap, sym, ◌∙◌, subst}
 use Rattle.std.proofs.lemmas.Int.{ints, clamps}
 use Rattle.std.specs.Int.{int_div_euclid}
@@ -7,7 +7,7 @@ use Rattle.int_model.specs.Limits.{IsBound}
 use Rattle.int_model.specs.Boxes.{Interval, Box, box_of, interval_at, is_empty, at_most, at_least}
 use Rattle.int_model.specs.Programs.{Terms}
 use Rattle.int_model.specs.RowSums.{coefficient, without, least_sum, greatest_sum}
-use Rattle.int_model.proofs.BoxLaws.{IsIn, tells-points}
+use Rattle.int_model.proofs.BoxLaws.{tells-points}
 use Rattle.int_model.proofs.RowSumLaws.{IsIn_at}
 use Rattle.int_model.proofs.SideLemmas.{interval-at}
 use Rattle.activity.specs.Sums.{AreSummed}

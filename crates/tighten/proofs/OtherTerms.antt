@@ -1,6 +1,6 @@
 -- The coefficient of a column, and the sums of a row's other terms.
-use Rattle.std.specs.Prelude.{◌≡◌, ℕ, zero, suc, ◌+◌, ◌*◌, ◌^◌, ◌<◌, ◌≤◌, ℤ, pos, negsuc, ◌+ℤ◌, ◌-ℤ◌, ◌*ℤ◌, unsigned_abs, List, [], ◌∷◌, length, drop, slice_index_or, Bool, true, false, not, cond, nat_eq, refl}
-use Rattle.std.proofs.Common.{arith, ap, sym, ◌∙◌}
+use Rattle.std.specs.Prelude.{◌≡◌, ℕ, zero, suc, ◌+◌, ◌<◌, ◌≤◌, ℤ, pos, ◌+ℤ◌, [], ◌∷◌, length, slice_index_or, Bool, true, false, not, cond, nat_eq, refl}
+use Rattle.std.proofs.Common.{arith, ap, ◌∙◌}
 use Rattle.std.proofs.lemmas.Bool.Decides.{nat_tests}
 use Rattle.std.proofs.lemmas.Int.{ints, clamps}
 use Rattle.int_model.specs.Limits.{IsEntry}
@@ -16,6 +16,12 @@ coefficient-earlier least n ((k, a) ∷ ts) j all h =
     let other : nat_eq k j ≡ false = grind (arith, nat_tests, all.0) in
     rw other (omega (arith, ints, coefficient-earlier (k + 1) n ts j all.4 (omega (arith, all.0))))
 
+-- columns rise, so none lies below the least
+pub column-above : (least n : ℕ) (ts : Terms) (i : ℕ) (d : ℕ × ℤ) → AreTerms least n ts → i < length ts → least ≤ (slice_index_or ts i d).0
+column-above least n [] i d all h = absurd (omega arith)
+column-above least n (t ∷ ts) zero d all h = all.0
+column-above least n (t ∷ ts) (suc i) d all h = omega (arith, column-above (t.0 + 1) n ts i d all.4 (omega arith), all.0)
+
 -- the coefficient is that of the term of the column
 pub coefficient-at : (least n : ℕ) (ts : Terms) (i j : ℕ) (d : ℕ × ℤ) → AreTerms least n ts → i < length ts → (slice_index_or ts i d).0 ≡ j → coefficient j ts ≡ (slice_index_or ts i d).1
 coefficient-at least n [] i j d all h e = absurd (omega arith)
@@ -29,11 +35,17 @@ coefficient-at least n ((k, a) ∷ ts) (suc i) j d all h e =
     let other : nat_eq k j ≡ false = grind (arith, nat_tests) in
     let whole : pos 0 +ℤ coefficient j ts ≡ coefficient j ts = omega (arith, ints) in
     rw other (whole ∙ more)
-  where
-    column-above : (least n : ℕ) (ts : Terms) (i : ℕ) (d : ℕ × ℤ) → AreTerms least n ts → i < length ts → least ≤ (slice_index_or ts i d).0
-    column-above least n [] i d all h = absurd (omega arith)
-    column-above least n (t ∷ ts) zero d all h = all.0
-    column-above least n (t ∷ ts) (suc i) d all h = omega (arith, column-above (t.0 + 1) n ts i d all.4 (omega arith), all.0)
+
+entry_by : (least n k : ℕ) (a : ℤ) (ts : Terms) (j : ℕ) → AreTerms least n ((k, a) ∷ ts) → IsEntry (coefficient j ts) → (b : Bool) → nat_eq k j ≡ b → IsEntry (cond b a (pos 0) +ℤ coefficient j ts)
+entry_by least n k a ts j all more true e =
+    let none : coefficient j ts ≡ pos 0 = coefficient-earlier (k + 1) n ts j all.4 (grind (arith, nat_tests)) in
+    omega (arith, ints, none, all.2)
+entry_by least n k a ts j all more false e = omega (arith, ints, more)
+
+-- the coefficient of a column is within the limit
+pub coefficient-entry : (least n : ℕ) (ts : Terms) (j : ℕ) → AreTerms least n ts → IsEntry (coefficient j ts)
+coefficient-entry least n [] j all = omega (arith, ints)
+coefficient-entry least n ((k, a) ∷ ts) j all = entry_by least n k a ts j all (coefficient-entry (k + 1) n ts j all.4) (nat_eq k j) refl
 
 pub coefficient-none : (ts : Terms) (j : ℕ) (d : ℕ × ℤ) → ((k : ℕ) → k < length ts → (slice_index_or ts k d).0 ≡ j → ⊥) → coefficient j ts ≡ pos 0
 coefficient-none [] j d h = refl

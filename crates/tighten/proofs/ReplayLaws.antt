@@ -1,5 +1,5 @@
 -- Steps and replays keep every feasible point of the box.
-use Rattle.std.specs.Prelude.{◌≡◌, ℕ, zero, suc, ℤ, pos, negsuc, ◌-ℤ◌, ◌*ℤ◌, neg_ℤ, ◌≤ℤ◌, List, [], ◌∷◌, slice_set, slice_index_or, Bool, true, false, cond, int_lt, Option, Some, None, IfSome, IsSomeAnd, refl, option_and_then}
+use Rattle.std.specs.Prelude.{◌≡◌, ℕ, zero, suc, ℤ, pos, negsuc, ◌-ℤ◌, ◌*ℤ◌, neg_ℤ, ◌≤ℤ◌, List, [], ◌∷◌, slice_set, slice_index_or, Bool, true, false, cond, int_lt, Option, Some, None, IfSome, IsSomeAnd, option_and_then}
 use Rattle.std.proofs.Common.{arith}
 use Rattle.std.specs.Int.{int_div_euclid}
 use Rattle.std.proofs.lemmas.Int.{ints}
@@ -11,7 +11,7 @@ use Rattle.int_model.specs.declared.model.Ends.{Ends}
 use Rattle.int_model.proofs.BoxLaws.{IsIn, IsIn-at_most, IsIn-at_least, InBox-set, InBox-meet, InBox-not_empty}
 use Rattle.int_model.proofs.RowSumLaws.{IsIn_at, IsBetween_at, least_sum-le, le-greatest_sum, row_sum-without}
 use Rattle.int_model.proofs.IntegerLaws.{neg-mul, div-above, div-below}
-use Rattle.tighten.specs.Replay.{narrowed, by_upper, by_lower, left_by, left_of, with_interval, tightened, tightened_by, replayed, replay}
+use Rattle.tighten.specs.Replay.{narrowed, by_upper, by_lower, left_by, tightened, tightened_by, replay}
 use Rattle.tighten.specs.declared.step.Step.{Step}
 use Rattle.tighten.specs.declared.step.RowEnd.{RowEnd}
 use Rattle.tighten.specs.declared.step.RowEnd.TheVariants.{Lower, Upper}

@@ -1,7 +1,6 @@
 -- What a step does to a box, and one step more.
-use Rattle.std.specs.Prelude.{◌≡◌, ◌⊎◌, ℕ, zero, suc, ◌+◌, ◌<◌, ◌≤◌, ℤ, pos, ◌≤ℤ◌, ◌<ℤ◌, int_lt, Bool, true, false, ◌||◌, cond, List, [], ◌∷◌, length, map, take, slice_index_or, slice_get, slice_set, Option, Some, None, option_and_then, refl}
-use Rattle.std.proofs.Common.{arith, ap, sym, ◌∙◌, subst, inl, inr}
-use Rattle.std.proofs.lemmas.Int.{ints}
+use Rattle.std.specs.Prelude.{◌≡◌, ℕ, zero, suc, ◌<◌, int_lt, Bool, true, false, ◌||◌, cond, List, [], ◌∷◌, length, map, take, slice_index_or, slice_get, slice_set, Option, Some, None, option_and_then, refl}
+use Rattle.std.proofs.Common.{arith, ap, sym, ◌∙◌, inr}
 use Rattle.std.proofs.lemmas.List.{length-set}
 use Rattle.int_model.specs.Boxes.{Interval, Box, box_of, is_empty}
 use Rattle.int_model.specs.Programs.{Terms}
@@ -9,7 +8,7 @@ use Rattle.int_model.specs.declared.model.Ends.{Ends}
 use Rattle.int_model.specs.declared.model.Row.{Row}
 use Rattle.tighten.specs.declared.step.Step.{Step}
 use Rattle.tighten.specs.Steps.{IsReplayed, StopsAt}
-use Rattle.tighten.specs.Replay.{left_of, replayed, with_interval, tightened, tightened_by}
+use Rattle.tighten.specs.Replay.{left_of, with_interval, tightened, tightened_by}
 
 pub sides-of : (box : Box) → box_of (map (λ (i : Interval). i.low) box) (map (λ (i : Interval). i.high) box) ≡ box
 sides-of [] = refl
@@ -29,7 +28,7 @@ or-false : (b c : Bool) → (b || c) ≡ false → (b ≡ false) × (c ≡ false
 or-false true c e = absurd (cc)
 or-false false c e = (refl, e)
 
-set-occupied : (box : Box) (j : ℕ) (i : Interval) → is_empty box ≡ false → int_lt i.high i.low ≡ false → is_empty (slice_set box j i) ≡ false
+pub set-occupied : (box : Box) (j : ℕ) (i : Interval) → is_empty box ≡ false → int_lt i.high i.low ≡ false → is_empty (slice_set box j i) ≡ false
 set-occupied [] j i e h = refl
 set-occupied (k ∷ box) zero i e h = rw (h, (or-false (int_lt k.high k.low) (is_empty box) e).1) refl
 set-occupied (k ∷ box) (suc j) i e h =
@@ -55,15 +54,15 @@ tightened-next rows ends step box t e h = with_interval-next box t step.column (
 
 -- ---- one step more
 
-same_box : {a b : Box} → Some a ≡ Some b → a ≡ b
+pub same_box : {a b : Box} → Some a ≡ Some b → a ≡ b
 same_box e = cc
 
-then_some : (o : Option Box) → option_and_then (λ b. Some b) o ≡ o
+pub then_some : (o : Option Box) → option_and_then (λ b. Some b) o ≡ o
 then_some None = refl
 then_some (Some b) = refl
 
 -- the rest of the steps, by what the first gives
-more_of : (rows : List Terms) (ends : List Ends) (some more : List Step) (o w : Option Box) (t : Box) → ((b : Box) → tightened_by rows ends some b ≡ Some t → tightened_by rows ends more b ≡ w) → option_and_then (tightened_by rows ends some) o ≡ Some t → option_and_then (tightened_by rows ends more) o ≡ w
+pub more_of : (rows : List Terms) (ends : List Ends) (some more : List Step) (o w : Option Box) (t : Box) → ((b : Box) → tightened_by rows ends some b ≡ Some t → tightened_by rows ends more b ≡ w) → option_and_then (tightened_by rows ends some) o ≡ Some t → option_and_then (tightened_by rows ends more) o ≡ w
 more_of rows ends some more None w t h f = absurd (cc)
 more_of rows ends some more (Some b) w t h f = h b f
 

@@ -1,5 +1,5 @@
 -- What is proved of steps and replays.
-use Rattle.std.specs.Prelude.{◌≡◌, ℤ, List, Some, IsSomeAnd}
+use Rattle.std.specs.Prelude.{ℤ, List, IsSomeAnd}
 use Rattle.int_model.specs.Boxes.{Box, InBox}
 use Rattle.int_model.specs.Programs.{Program, Feasible}
 use Rattle.tighten.specs.declared.step.Step.{Step}

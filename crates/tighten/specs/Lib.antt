@@ -1,4 +1,7 @@
 pub mod Replay
 pub mod Steps
+pub mod Sums
+pub mod Cuts
+pub mod Queues
 pub mod Engines
 pub mod Laws

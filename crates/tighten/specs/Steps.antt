@@ -1,5 +1,5 @@
 -- What the calls on steps need, and what they answer.
-use Rattle.std.specs.Prelude.{◌≡◌, ◌⊎◌, ℕ, ◌*◌, ◌^◌, ◌<◌, ℤ, ◌<ℤ◌, int_lt, Bool, true, false, List, [], length, map, take, slice_get, Option, Some, None, All}
+use Rattle.std.specs.Prelude.{◌≡◌, ◌⊎◌, ℕ, ◌*◌, ◌^◌, ◌<◌, ℤ, ◌<ℤ◌, int_lt, Bool, true, false, List, length, map, take, slice_get, Option, Some, None, All}
 use Rattle.int_model.specs.Limits.{IsBound}
 use Rattle.int_model.specs.Boxes.{Box, Interval, is_empty}
 use Rattle.int_model.specs.Programs.{Terms, AreTerms}

@@ -4,9 +4,12 @@
 mod engine;
 pub mod laws;
 mod narrow;
+mod narrowing;
 mod proposal;
+mod row_queue;
 mod slack;
 mod step;
+mod sums;
 mod tightening;
 
 pub use engine::Engine;

@@ -66,7 +66,7 @@ fn most_others(
 }
 
 // The part of an interval with coefficient * x <= limit, None where it holds no number.
-fn narrow(coefficient: i64, limit: i64, low: i32, high: i32) -> Option<(i32, i32)>
+pub fn narrow(coefficient: i64, limit: i64, low: i32, high: i32) -> Option<(i32, i32)>
     requires coefficient { IsEntry coefficient }
     requires limit { unsigned_abs limit ≤ 4 * 10 ^ 18 }
     requires low { IsBound low }

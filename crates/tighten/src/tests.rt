@@ -94,15 +94,15 @@ fn narrows_along_a_chain(rt: HostRuntime) -> Result<(), Fail> {
     assert_eq!(rt; model.columns(), 4);
     let ends = [BELOW, BELOW, BELOW];
     let mut engine = Engine::new(rt.alloc(), &model)?;
-    engine.load(&model, &bounds)?;
-    assert!(rt; engine.propagate(&model, &ends, 100)?);
+    engine.load(&model, &bounds);
+    assert!(rt; engine.propagate(&model, &ends, 100, 100)?);
     assert_eq!(rt; engine.lows(), [3, 2, 1, 0].as_slice());
     assert_eq!(rt; engine.highs(), [9, 8, 7, 6].as_slice());
     let mark = engine.mark();
     engine.set(&model, 0, 3, 3)?;
-    assert!(rt; engine.propagate(&model, &ends, 100)?);
+    assert!(rt; engine.propagate(&model, &ends, 100, 100)?);
     assert_eq!(rt; engine.highs(), [3, 2, 1, 0].as_slice());
-    engine.undo(&model, mark)?;
+    engine.undo(&model, mark);
     assert_eq!(rt; engine.highs(), [9, 8, 7, 6].as_slice());
     Ok(())
 }

@@ -1,4 +1,4 @@
-use Rattle.std.proofs.Common.{rules, arith, ◌≡◌, ◌≤◌, ◌*◌, ◌^◌, ◌∙◌, ap, sym, subst, ℤ, pos, ◌-ℤ◌, unsigned_abs, get_or, Option, Some, IfSome, FitsSigned, w64, w32}
+use Rattle.std.proofs.Common.{arith, ◌≤◌, ◌*◌, ◌^◌, sym, subst, ℤ, pos, ◌-ℤ◌, unsigned_abs, get_or, Option, Some, IfSome, FitsSigned, w64, w32}
 use Rattle.std.proofs.lemmas.Int.{ints, to_z-of_z}
 use Rattle.int_model.specs.Boxes.{box_of}
 use Rattle.tighten.specs.Steps.{IsLeft}

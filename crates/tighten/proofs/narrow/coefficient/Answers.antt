@@ -1,6 +1,5 @@
-use Rattle.std.proofs.Common.{arith, ◌≡◌, ℕ, ℤ, pos, get_or, FitsSigned, w64}
+use Rattle.std.proofs.Common.{arith, ℕ, ℤ, pos, get_or, FitsSigned, w64}
 use Rattle.std.proofs.lemmas.Int.{ints, to_z-of_z}
-use Rattle.int_model.specs.Limits.{IsEntry}
 use Rattle.activity.proofs.SumLemmas.{term_at}
 use Rattle.tighten.proofs.OtherTerms.{coefficient-at, coefficient-none}
 use Rattle.std.proofs.Common.{sym}

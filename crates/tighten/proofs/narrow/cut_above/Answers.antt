@@ -1,4 +1,4 @@
-use Rattle.std.proofs.Common.{arith, ◌≡◌, ℤ, ◌≤ℤ◌, ◌<ℤ◌, FitsSigned, w64, w32}
+use Rattle.std.proofs.Common.{arith, ◌≤ℤ◌, ◌<ℤ◌, FitsSigned, w64, w32}
 use Rattle.std.proofs.lemmas.Int.{ints, to_z-of_z}
 use Rattle.tighten.proofs.NarrowLemmas.{cut-above-left}
 use Rattle.tighten.proofs.narrow.cut_above.Goals as goal

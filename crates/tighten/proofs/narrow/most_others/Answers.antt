@@ -1,7 +1,7 @@
 use Rattle.std.proofs.Common.{rules, arith, ◌≡◌, ◌∙◌, ap, sym, ℤ, pos, ◌-ℤ◌, get_or, FitsSigned, w64, w32}
 use Rattle.std.proofs.lemmas.Int.{ints, to_z-of_z}
 use Rattle.int_model.specs.Boxes.{box_of, interval_at}
-use Rattle.int_model.specs.RowSums.{coefficient, without, greatest_product, greatest_sum}
+use Rattle.int_model.specs.RowSums.{coefficient, greatest_product}
 use Rattle.int_model.proofs.SideLemmas.{interval-at}
 use Rattle.tighten.proofs.OtherTerms.{greatest_sum-split}
 use Rattle.tighten.proofs.narrow.most_others.Goals as goal

@@ -1,4 +1,4 @@
-use Rattle.std.proofs.Common.{rules, arith, ◌≡◌, ◌∙◌, ap, sym, subst, ℤ, pos, ◌<ℤ◌, FitsSigned, w64, w32}
+use Rattle.std.proofs.Common.{rules, arith, ◌≡◌, ◌∙◌, ap, sym, subst, pos, ◌<ℤ◌, FitsSigned, w64, w32}
 use Rattle.std.specs.Int.{int_div_euclid}
 use Rattle.std.proofs.lemmas.Int.{ints, to_z-of_z}
 use Rattle.int_model.specs.Boxes.{Interval, at_most}

@@ -1,5 +1,5 @@
-use Rattle.std.proofs.Common.{rules, arith, ◌≡◌, ◌∙◌, ap, sym, subst, List, [], ℤ, None, slice_index_or}
-use Rattle.int_model.specs.Boxes.{box_of, is_empty, Box, Interval}
+use Rattle.std.proofs.Common.{◌≡◌, ◌∙◌, ap, sym, subst, [], None, slice_index_or}
+use Rattle.int_model.specs.Boxes.{box_of, Interval}
 use Rattle.int_model.specs.Programs.{Terms}
 use Rattle.int_model.specs.declared.model.Ends.{Ends}
 use Rattle.tighten.specs.Replay as spec
