@@ -45,6 +45,3 @@ pub fn write_report(
     }
     Ok(out)
 }
-
-#[cfg(test)]
-mod tests;
