@@ -26,6 +26,8 @@ use Rattle.mps_reader.specs.declared.MpsKind.TheVariants.{Fields, LongName, Dupl
 use Rattle.mps_reader.proofs.OpeningLemmas.{bytes_eq-refl, bytes_eq-sym, list_any-append}
 use Rattle.mps_reader.proofs.BoundLemmas.{data_then, last_of-push}
 use Rattle.mps_reader.proofs.TableLemmas.{table_then}
+use Rattle.mps_reader.specs.MpsModels.{terms_from}
+use Rattle.mps_reader.proofs.TermLists.{terms_push, term_if, zero_in}
 
 -- ---- elements that pass a test which sees those before them
 
@@ -199,11 +201,13 @@ entries_pushed names columns rows count ls es m absent a = record {
             let size : length (columns ++ m ∷ []) - 1 ≡ length columns = omega (arith, length_push columns m) in
             ap (is_column row.last_column) size ∙ no_column row.last_column (length columns) h.below ∙ sym (a.owners_known m absent n) ∙ ap (λ w. is_given es w n) mine;
         below = λ k e. let h : k < length columns = h.below k e in omega (arith, h, length_push columns m);
+        terms = λ reads. h.terms reads ∙ sym (terms_push 0 es columns m n ∙ ap (λ z. terms_from 0 es columns n ++ term_if (0 + length columns) z) (zero_in es m n (a.owners_known m absent n)) ∙ append-nil (terms_from 0 es columns n));
       }) a.last;
   rows_known = a.rows_known;
   owners_known = λ o no_one n. a.owners_known o (absent_before columns m o no_one) n;
   counted = a.counted;
   few = a.few;
+  apart = distinct_push columns m a.apart absent;
 }
 
 pub entries_grown : (b : Bool) (names columns new_columns : List (List ℕ)) (items new_items : List ColumnDraft) (part : Bool) (m : List ℕ) (rows : List RowDraft) (count : ℕ) (ls : List Line) (es : List Entry) → AddsColumn b columns items new_columns new_items part m → EntriesAgree names rows columns count ls es → EntriesAgree names rows new_columns count ls es

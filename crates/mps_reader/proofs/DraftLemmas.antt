@@ -12,7 +12,7 @@ use Rattle.mps_reader.specs.TakenLines.{IsHeaderWith, IsDataWith}
 use Rattle.mps_reader.specs.Sections.{word_of, words_of}
 use Rattle.mps_reader.specs.Openings.{HeadersAgree}
 use Rattle.mps_reader.specs.Sets.{AgreesWith}
-use Rattle.mps_reader.specs.RowTables.{RowsReady}
+use Rattle.mps_reader.specs.RowTables.{RowsReady, sense_with}
 use Rattle.mps_reader.specs.BegunRows.{IsBegun, IsRowPushed}
 use Rattle.mps_reader.specs.BoundLines.{BoundsReady}
 use Rattle.mps_reader.specs.ColumnBounds.{BoundsAgree, with_line}
@@ -46,11 +46,12 @@ use Rattle.mps_reader.proofs.EntryLemmas.{given_some}
 use Rattle.std.specs.List.{position_or_len}
 use Rattle.std.proofs.lemmas.List.Sums.{sum_by-cons}
 use Rattle.std.proofs.lemmas.Bool.{lt-ltb}
-use Rattle.mps_reader.proofs.RoleLemmas.{role_other, role_new, free_other, kept_other, kept_then, names_row}
+use Rattle.mps_reader.proofs.RoleLemmas.{role_other, role_new, free_other, kept_other, kept_then, names_row, senses_pushed}
 use Rattle.mps_reader.proofs.SideLemmas.{placed, differs, rows_along}
 use Rattle.mps_reader.proofs.TermLemmas.{roles_along}
 use Rattle.mps_reader.proofs.ColumnLemmas.{distinct_push, integers_then, absent_before}
 use Rattle.mps_reader.proofs.FrameLemmas.{elsewhere, header_out, other_out, ready_same, roles_same, entries_same, bounds_same, integers_out, heads_out, opening_out}
+use Rattle.mps_reader.proofs.TermLists.{terms_none, zero_in}
 
 -- the entries and sets of another section stay
 module _ (ls : List Line) (l : Line) where
@@ -171,8 +172,9 @@ module _ (names : List (List ℕ)) (rows : List RowDraft) (row : RowDraft) (ls :
     called = ap (λ ns. ns ++ field 1 l ∷ []) r.called ∙ sym (ap (map (field 1)) (data_then (codes "ROWS") ls l words taken) ∙ map-append (field 1) (data_of (codes "ROWS") ls) (l ∷ []));
     distinct = distinct_push names (field 1 l) r.distinct absent;
     roles = table_push (HasRole ls) (HasRole (ls ++ l ∷ [])) names rows (field 1 l) row absent r.roles
-        (role_new ls l words row taken (ap (λ ns. is_one_of ns (field 1 l)) (sym r.called) ∙ absent) begun.role)
+        (role_new ls l words row taken (ap (λ ns. is_one_of ns (field 1 l)) (sym r.called) ∙ absent) begun.role begun.name)
         (λ n y other h. role_other ls l words n y taken other h);
+    senses = senses_pushed ls l words rows row taken begun.role r.senses;
   }
 
   side_pushed : (side : Side) (es : List Entry) → side_of side row ≡ None → SideAgrees side names rows es → SideAgrees side (names ++ field 1 l ∷ []) (rows ++ row ∷ []) es
@@ -205,12 +207,14 @@ module _ (names : List (List ℕ)) (rows : List RowDraft) (row : RowDraft) (ls :
         (record {
           same = λ o at reads. ap (λ k. is_column k (length columns - 1)) begun.last_column ∙ sym (a.rows_known (field 1 l) absent o);
           below = λ k e. absurd (none_some k (sym begun.last_column ∙ e));
+          terms = λ reads. begun.terms ∙ sym (terms_none 0 es columns (field 1 l) (λ o. zero_in es o (field 1 l) (a.rows_known (field 1 l) absent o)));
         })
         (λ n y other h. h);
     rows_known = λ n out o. a.rows_known n (absent_before names (field 1 l) n out) o;
     owners_known = a.owners_known;
     counted = a.counted ∙ sym (terms_known es (λ o. a.rows_known (field 1 l) absent o));
     few = a.few;
+    apart = a.apart;
   }
     where
       none_some : (k : ℕ) → None ≡ Some k → ⊥
@@ -249,19 +253,21 @@ side_along side names old new es along s = record {
   known = s.known;
 }
 
-last_as : (columns : List (List ℕ)) (es : List Entry) (n : List ℕ) (x y : RowDraft) → y.role ≡ x.role → y.last_column ≡ x.last_column → HasLast columns es n x → HasLast columns es n y
-last_as columns es n x y role last h = record {
+last_as : (columns : List (List ℕ)) (es : List Entry) (n : List ℕ) (x y : RowDraft) → y.role ≡ x.role → y.last_column ≡ x.last_column → y.terms ≡ x.terms → HasLast columns es n x → HasLast columns es n y
+last_as columns es n x y role last terms h = record {
+  terms = λ reads. ap (λ v. v.items) terms ∙ h.terms (ap is_unread (sym role) ∙ reads);
   same = λ o at reads. ap (λ k. is_column k (length columns - 1)) last ∙ h.same o at (ap is_unread (sym role) ∙ reads);
   below = λ k e. h.below k (sym last ∙ e);
 }
 
 numbers_along : (side : Side) (names columns : List (List ℕ)) (old new : List RowDraft) (count : ℕ) (ls : List Line) (es : List Entry) → IsAlong (IsSameBesides side) old new → EntriesAgree names old columns count ls es → EntriesAgree names new columns count ls es
 numbers_along side names columns old new count ls es along a = record {
-  last = table_along (IsSameBesides side) (HasLast columns es) (HasLast columns es) names old new (λ n x y r h. last_as columns es n x y r.role r.last_column h) along a.last;
+  last = table_along (IsSameBesides side) (HasLast columns es) (HasLast columns es) names old new (λ n x y r h. last_as columns es n x y r.role r.last_column r.terms h) along a.last;
   rows_known = a.rows_known;
   owners_known = a.owners_known;
   counted = a.counted;
   few = a.few;
+  apart = a.apart;
 }
 
 ready_moved : (keys new_keys : List (Bor (List ℕ))) (kept new_kept : ℕ) (has new_has : Bool) (ls : List Line) → new_keys ≡ keys → new_kept ≡ kept → new_has ≡ has → RowsReady keys kept has ls → RowsReady new_keys new_kept new_has ls
@@ -400,7 +406,7 @@ module _ {X : Type 0} (p : X → Bool) where
   place_below [] some = absurd (true≢false (sym some))
   place_below (x ∷ xs) some = place_b (p x) x xs refl (place_below xs) some
 
-  place_of : (xs : List X) → list_any p xs ≡ true → position p xs ≡ Some (position_or_len p xs)
+  pub place_of : (xs : List X) → list_any p xs ≡ true → position p xs ≡ Some (position_or_len p xs)
   place_of xs some = ap (λ b. cond b (Some (position_or_len p xs)) None) (lt-ltb (position_or_len p xs) (length xs) (place_below xs some))
 
 known_b : (f s c : Bool) (o : Option MpsKind) → or_else (first_kind ((f, Fields) ∷ (s, SecondSet) ∷ (not c, UnknownColumn) ∷ [])) o ≡ None → c ≡ true
@@ -494,12 +500,12 @@ new_agrees d opens rows keys kept has columns column_keys part current entries r
     let no_current : option_map (λ c. c.now) d.columns.current ≡ None = ap (option_map (λ c. c.now)) current in record {
       opening = opens;
       ready = record { names = names; kept = kept; objective = has };
-      roles = record { called = names; distinct = none; roles = empty_table (HasRole []) (row_texts d) (row_items d) names rows };
+      roles = record { called = names; distinct = none; roles = empty_table (HasRole []) (row_texts d) (row_items d) names rows; senses = ap (map (λ r. sense_with r.role)) rows };
       sides = record { sides = empty_table (HasSide Rhs []) (row_texts d) (row_items d) names rows; known = λ n out o. refl };
       ranges = record { sides = empty_table (HasSide Range []) (row_texts d) (row_items d) names rows; known = λ n out o. refl };
       heads = record { called = column_names_are; distinct = no_columns; goes_on = no_current; last = λ o e. absurd (none_some o (sym no_current ∙ e)); inside = part };
       bounds = record { known = empty_table (HasColumn []) (column_texts d) (column_items d) column_names_are columns; bounds_known = λ n out. refl; marks_known = λ n out. refl };
-      numbers = record { last = empty_table (HasLast (column_texts d) []) (row_texts d) (row_items d) names rows; rows_known = λ n out o. refl; owners_known = λ o out n. refl; counted = entries; few = omega (arith, entries) };
+      numbers = record { last = empty_table (HasLast (column_texts d) []) (row_texts d) (row_items d) names rows; rows_known = λ n out o. refl; owners_known = λ o out n. refl; counted = entries; few = omega (arith, entries); apart = no_columns };
       rhs_sets = rhs;
       range_sets = range;
       bound_sets = bound;

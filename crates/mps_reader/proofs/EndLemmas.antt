@@ -33,7 +33,7 @@ part_pushed ls done c old new part o p n = n ∙ ap (λ r. r ++ part ∷ []) o �
 
 -- ---- the columns that a draft has kept
 
-named_by : (names : List (List ℕ)) (columns : List ColumnDraft) (ls : List Line) → IsTable (HasColumn ls) names columns → names_of columns ≡ names
+pub named_by : (names : List (List ℕ)) (columns : List ColumnDraft) (ls : List Line) → IsTable (HasColumn ls) names columns → names_of columns ≡ names
 named_by names [] ls t = sym (nil_from_length names (sym t.size))
 named_by names (c ∷ columns) ls t = same_lists (names_of (c ∷ columns)) names (length-map (c ∷ columns) (λ x. x.name) ∙ t.size)
     (λ k d h.

@@ -1,15 +1,17 @@
 -- How one more entry changes what a section has given.
-use Rattle.std.proofs.Common.{◌≡◌, ◌∙◌, ap, ℕ, ◌+◌, Bool, true, false, ◌||◌, ◌&&◌, cond, List, [], ◌∷◌, ◌++◌, Option, Some, None, refl}
+use Rattle.std.proofs.Common.{◌≡◌, ◌∙◌, ap, ℕ, ◌+◌, Bool, true, false, ◌||◌, ◌&&◌, cond, List, [], ◌∷◌, ◌++◌, Option, Some, None, refl, ℤ, nat_lt, unsigned_abs, Result, Ok, Err}
 use Rattle.std.specs.Prelude.{bytes_eq, is_some, option_map, find}
 use Rattle.std.specs.List.{list_any}
 use Rattle.std.proofs.lemmas.Bool.{or_parts, and_right}
 use Rattle.std.proofs.lemmas.List.Sums.{sum_by_push}
 use Rattle.mps_reader.specs.MpsLines.{Line, Entry, is_kept}
-use Rattle.mps_reader.specs.MpsRules.{or_else, entries_kind, is_nonzero, term_count}
-use Rattle.mps_reader.specs.MpsModels.{given, number_or_zero}
+use Rattle.mps_reader.specs.MpsRules.{or_else, entries_kind, is_nonzero, term_count, is_nonzero_result}
+use Rattle.mps_reader.specs.MpsModels.{given, number_or_zero, ok_or_zero}
 use Rattle.mps_reader.specs.RowStates.{is_entry, is_given}
 use Rattle.mps_reader.specs.declared.MpsKind.{MpsKind}
 use Rattle.mps_reader.proofs.OpeningLemmas.{bytes_eq-refl, or-false, list_any-append}
+use Rattle.num_text.specs.NumberText.{number_of}
+use Rattle.num_text.specs.declared.number.NumberError.{NumberError}
 
 pub is_given-push : (es : List Entry) (e : Entry) (o n : List ℕ) → is_given (es ++ e ∷ []) o n ≡ (is_given es o n || is_entry o n e)
 is_given-push es e o n = list_any-append (is_entry o n) es (e ∷ []) ∙ ap (λ b. is_given es o n || b) (or-false (is_entry o n e))
@@ -74,3 +76,12 @@ next_entry kind before e es none = ap (λ o. or_else o (entries_kind kind (befor
 
 pub term_added : (ls : List Line) (es : List Entry) (e : Entry) → term_count ls (es ++ e ∷ []) ≡ term_count ls es + cond (is_kept ls e.row && is_nonzero e.text) 1 0
 term_added ls es e = sum_by_push (λ (e : Entry). cond (is_kept ls e.row && is_nonzero e.text) 1 0) es e
+
+-- ---- numbers
+
+nonzero_result : (r : Result ℤ NumberError) → is_nonzero_result r ≡ nat_lt 0 (unsigned_abs (ok_or_zero r))
+nonzero_result (Ok z) = refl
+nonzero_result (Err e) = refl
+
+pub nonzero_is : (text : List ℕ) → is_nonzero text ≡ nat_lt 0 (unsigned_abs (number_or_zero text))
+nonzero_is text = nonzero_result (number_of text)

@@ -8,7 +8,7 @@ use Rattle.mps_reader.specs.MpsRules.{is_nonzero, term_count, direction_words}
 use Rattle.mps_reader.specs.MpsModels.{bound_lines}
 use Rattle.mps_reader.specs.TakenLines.{IsDataWith}
 use Rattle.mps_reader.specs.Openings.{HeadersAgree, direction_of}
-use Rattle.mps_reader.specs.RowTables.{RowsReady}
+use Rattle.mps_reader.specs.RowTables.{RowsReady, sense_after}
 use Rattle.mps_reader.specs.RowStates.{HasRole, RowsAgree, EntriesAgree}
 use Rattle.mps_reader.specs.ColumnStates.{ColumnsReady, ColumnsAgree, HasColumn, continued_by}
 use Rattle.mps_reader.specs.ColumnBounds.{BoundsAgree}
@@ -52,6 +52,7 @@ module _ (ls ks : List Line) where
       free = ap (λ f. is_one_of f n) free_same ∙ h.free;
       objective = ap (λ f. is_first f n) free_same ∙ h.objective;
       kept = ap (list_any (λ l. bytes_eq (field 1 l) n)) kept_same ∙ h.kept;
+      named = h.named;
     }
 
     pub roles_same : (names : List (List ℕ)) (rows : List RowDraft) → RowsAgree names rows ls → RowsAgree names rows ks
@@ -59,6 +60,7 @@ module _ (ls ks : List Line) where
       called = r.called ∙ sym (ap (map (field 1)) e);
       distinct = r.distinct;
       roles = table_then (HasRole ls) (HasRole ks) names rows (λ n row h. role_same n row h) r.roles;
+      senses = r.senses ∙ sym (ap (map (λ k. sense_after (field 0 k))) e);
     }
 
     pub terms_same : (es : List Entry) → term_count ks es ≡ term_count ls es
@@ -71,6 +73,7 @@ module _ (ls ks : List Line) where
       owners_known = a.owners_known;
       counted = a.counted ∙ sym (terms_same es);
       few = a.few;
+      apart = a.apart;
     }
 
   pub bounds_same : (names : List (List ℕ)) (columns : List ColumnDraft) → data_of (codes "BOUNDS") ks ≡ data_of (codes "BOUNDS") ls → integer_names ks ≡ integer_names ls → ColumnsAgree names columns ls → ColumnsAgree names columns ks

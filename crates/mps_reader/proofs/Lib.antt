@@ -8,6 +8,7 @@ pub mod BoundLemmas
 pub mod EndLemmas
 pub mod TableLemmas
 pub mod EntryLemmas
+pub mod TermLists
 pub mod RoleLemmas
 pub mod FieldLists
 pub mod SideLemmas
@@ -16,3 +17,5 @@ pub mod ColumnLemmas
 pub mod FrameLemmas
 pub mod DraftLemmas
 pub mod ReadingLemmas
+pub mod MadeLemmas
+pub mod ModelLemmas

@@ -1,13 +1,18 @@
 -- What the rest of a text makes, line by line.
-use Rattle.std.proofs.Common.{◌≡◌, ◌∙◌, ap, sym, subst, ℕ, ◌+◌, Bool, true, false, cond, List, [], ◌∷◌, ◌++◌, length, Option, Some, None, Result, Ok, Err, refl, arith}
-use Rattle.std.specs.Prelude.{filter, unwrap_or, slice_index_or, if◌then◌else◌}
+use Rattle.std.proofs.Common.{◌≡◌, ◌∙◌, ap, sym, subst, ℕ, ◌+◌, Bool, true, false, cond, List, [], ◌∷◌, ◌++◌, length, Option, Some, None, Result, Ok, Err, refl, arith, append-nil}
+use Rattle.std.specs.Prelude.{filter, unwrap_or, slice_index_or, if◌then◌else◌, bytes_eq, codes}
 use Rattle.std.specs.List.{enumerate_from}
 use Rattle.num_text.specs.Lines.{lines_of, fields_of}
 use Rattle.mps_reader.specs.MpsLines.{Line, is_read, is_header, header_after, under_headers, headers_of, last_of, column_names}
-use Rattle.mps_reader.specs.MpsRules.{line_kind}
+use Rattle.mps_reader.specs.MpsRules.{line_kind, direction_words}
 use Rattle.mps_reader.specs.MpsModels.{model_of, model_of_lines, model_from, by_kind, at_its_end, is_end, end_kind}
-use Rattle.mps_reader.specs.Drafts.{Agrees, IsLineBehind, section_behind}
+use Rattle.mps_reader.specs.Drafts.{Agrees, IsLineBehind, section_behind, HasParts}
 use Rattle.mps_reader.specs.Readings.{IsReading, lines_behind}
+use Rattle.std.specs.Result.{IfOk}
+use Rattle.std.proofs.lemmas.Bool.{and_parts}
+use Rattle.std.proofs.lemmas.Slice.Eq.{bytes_eq-Decides}
+use Rattle.mps_reader.specs.Openings.{direction_of}
+use Rattle.mps_reader.specs.declared.rows.Rows.{Rows}
 use Rattle.mps_reader.specs.Faults.{IsFault}
 use Rattle.mps_reader.specs.Endings.{IsRefusedWith, error_at}
 use Rattle.mps_reader.specs.Tables.{texts_of}
@@ -20,7 +25,7 @@ use Rattle.mps_reader.specs.declared.draft.Draft.{Draft}
 use Rattle.mps_reader.specs.declared.MpsKind.{MpsKind}
 use Rattle.mps_reader.specs.declared.MpsKind.TheVariants.{NoEnd}
 use Rattle.int_model.specs.Models.{IntegerModel}
-use Rattle.mps_reader.proofs.OpeningLemmas.{headers_of-header, headers_of-data}
+use Rattle.mps_reader.proofs.OpeningLemmas.{headers_of-header, headers_of-data, direction_words-append}
 use Rattle.mps_reader.proofs.BoundLemmas.{last_of-push}
 
 -- the line that bytes make behind these lines
@@ -124,3 +129,35 @@ refused_at_end earlier l r result m ends refuses is = ended_b (end_kind earlier 
 -- the columns are those before the end's line
 pub columns_before : (old new : Columns) (ls : List Line) → new ≡ old → ColumnsAgree (texts_of old.table.names.keys) old.table.items.items ls → ColumnsAgree (texts_of new.table.names.keys) new.table.items.items ls
 columns_before old new ls e a = subst (λ (c : Columns). ColumnsAgree (texts_of c.table.names.keys) c.table.items.items ls) (sym e) a
+
+-- the model of the lines before the end's
+accepted_b : (o : Option MpsKind) (earlier : List Line) (l : Line) (result : Result IntegerModel MpsError) → ((kind : MpsKind) → o ≡ Some kind → IsRefusedWith (l.number, kind) result) → IfOk result (λ m. m ≡ model_of_lines earlier) → IfOk result (λ m. at_its_end earlier l o ≡ Ok m)
+accepted_b o earlier l (Err e) refuses is = tt
+accepted_b None earlier l (Ok m) refuses is = ap (λ (n : IntegerModel). ok_model n) (sym is)
+  where
+    ok_model : IntegerModel → Result IntegerModel (ℕ × MpsKind)
+    ok_model n = Ok n
+accepted_b (Some kind) earlier l (Ok m) refuses is = absurd (refuses kind refl)
+
+pub accepted_at_end : (earlier : List Line) (l : Line) (result : Result IntegerModel MpsError) (m : Result IntegerModel (ℕ × MpsKind)) → m ≡ at_its_end earlier l (end_kind earlier (column_names earlier)) → ((kind : MpsKind) → end_kind earlier (column_names earlier) ≡ Some kind → IsRefusedWith (l.number, kind) result) → IfOk result (λ n. n ≡ model_of_lines earlier) → IfOk result (λ n. m ≡ Ok n)
+accepted_at_end earlier l result m ends refuses is = subst (λ (r : Result IntegerModel (ℕ × MpsKind)). IfOk result (λ n. r ≡ Ok n)) (sym ends) (accepted_b (end_kind earlier (column_names earlier)) earlier l result refuses is)
+
+-- the end's line gives no direction
+end_word : (l : Line) → is_end l ≡ true → direction_words (l ∷ []) ≡ []
+end_word l e =
+    let parts = and_parts l.header (bytes_eq l.section (codes "ENDATA")) e in
+    let at : l.section ≡ codes "ENDATA" = (bytes_eq-Decides l.section (codes "ENDATA")).0 parts.1 in
+    rw at refl
+
+pub parts_before : (old new : Draft) (earlier : List Line) (l : Line) → new.rows ≡ old.rows → new.columns ≡ old.columns → is_end l ≡ true → Agrees old earlier → Agrees new (earlier ++ l ∷ []) → HasParts new earlier
+parts_before old new earlier l rows columns ends a b =
+    subst (λ (r : Rows). HasParts (record new { rows = r }) earlier) (sym rows)
+    (subst (λ (c : Columns). HasParts (record new { rows = old.rows; columns = c }) earlier) (sym columns) (record {
+      roles = a.roles;
+      sides = a.sides;
+      ranges = a.ranges;
+      called = a.heads.called;
+      bounds = a.bounds;
+      numbers = a.numbers;
+      direction = b.opening.direction ∙ ap direction_of (direction_words-append earlier (l ∷ []) ∙ ap (λ r. direction_words earlier ++ r) (end_word l ends) ∙ append-nil (direction_words earlier));
+    }))

@@ -9,7 +9,7 @@ use Rattle.mps_reader.specs.MpsLines.{Line, Entry, field, is_free, is_one_of, is
 use Rattle.mps_reader.specs.MpsRules.{is_row, entry_kind, or_else, first_kind, number_kind}
 use Rattle.mps_reader.specs.MpsModels.{sense_of}
 use Rattle.mps_reader.specs.TakenLines.{IsDataWith}
-use Rattle.mps_reader.specs.RowTables.{role_with, role_after}
+use Rattle.mps_reader.specs.RowTables.{role_with, role_after, sense_with, sense_after}
 use Rattle.mps_reader.specs.ColumnNumbers.{makes_term}
 use Rattle.mps_reader.specs.SideNumbers.{ignores, most_of, side_of, side_kind}
 use Rattle.mps_reader.specs.RowStates.{HasRole, HasSide, is_objective_role, is_given, row_names, ignored_by, most_by}
@@ -82,6 +82,7 @@ role_other ls l words n row d other h = record {
   free = ap (λ F. is_one_of F n) (free_then ls l words d) ∙ free_other n (field 1 l) other (is_free l) (free_rows ls) ∙ h.free;
   objective = ap (λ F. is_first F n) (free_then ls l words d) ∙ first_other n (field 1 l) other (is_free l) (free_rows ls) ∙ h.objective;
   kept = ap (list_any (names_row n)) (kept_then ls l words d) ∙ kept_other n (field 1 l) other (not (is_free l)) (kept_rows ls) l refl ∙ h.kept;
+  named = h.named;
 }
 
 abbrev role_b : List (List ℕ) → Bool → RowSense → RowRole
@@ -113,15 +114,28 @@ module _ (m : List ℕ) (s : RowSense) where
   kept_new false K l e none = list_any-append (names_row m) K (l ∷ []) ∙ ap (λ w. list_any (names_row m) K || (bytes_eq w m || false)) e ∙ ap (λ b. list_any (names_row m) K || (b || false)) (bytes_eq-refl m) ∙ or-true (list_any (names_row m) K)
   kept_new true K l e none = list_any-append (names_row m) K [] ∙ or-false (list_any (names_row m) K) ∙ none
 
-pub role_new : (ls : List Line) (l : Line) (words : List (List ℕ)) (row : RowDraft) → IsDataWith (codes "ROWS") l words → is_one_of (row_names ls) (field 1 l) ≡ false → row.role ≡ role_after ls l → HasRole (ls ++ l ∷ []) (field 1 l) row
-role_new ls l words row d absent role =
+pub role_new : (ls : List Line) (l : Line) (words : List (List ℕ)) (row : RowDraft) → IsDataWith (codes "ROWS") l words → is_one_of (row_names ls) (field 1 l) ≡ false → row.role ≡ role_after ls l → row.name ≡ field 1 l → HasRole (ls ++ l ∷ []) (field 1 l) row
+role_new ls l words row d absent role named =
     let m : List ℕ = field 1 l in
     let s : RowSense = sense_of (field 0 l) in
     let parts = or_parts (is_one_of (free_rows ls) m) (is_kept ls m) (is_row-names ls m ∙ absent) in record {
       free = ap (λ F. is_one_of F m) (free_then ls l words d) ∙ free_new m s (is_free l) (free_rows ls) parts.0 ∙ not_not m s (is_free l) ∙ ap not (sym (term_b m s (is_free l) (free_rows ls))) ∙ ap (λ r. not (makes_term r)) (sym role);
       objective = ap (λ F. is_first F m) (free_then ls l words d) ∙ first_new m s (is_free l) (free_rows ls) parts.0 ∙ ap is_objective_role (sym role);
       kept = ap (list_any (names_row m)) (kept_then ls l words d) ∙ kept_new m s (is_free l) (kept_rows ls) l refl parts.1 ∙ sym (term_b m s (is_free l) (free_rows ls)) ∙ ap makes_term (sym role);
+      named = named;
     }
+
+sense_is : (has : Bool) (o : Option RowSense) → sense_with (role_with has o) ≡ o
+sense_is has (Some s) = refl
+sense_is true None = refl
+sense_is false None = refl
+
+pub senses_pushed : (ls : List Line) (l : Line) (words : List (List ℕ)) (rows : List RowDraft) (row : RowDraft) → IsDataWith (codes "ROWS") l words → row.role ≡ role_after ls l → map (λ r. sense_with r.role) rows ≡ map (λ k. sense_after (field 0 k)) (data_of (codes "ROWS") ls) → map (λ r. sense_with r.role) (rows ++ row ∷ []) ≡ map (λ k. sense_after (field 0 k)) (data_of (codes "ROWS") (ls ++ l ∷ []))
+senses_pushed ls l words rows row d role same =
+    map-append (λ r. sense_with r.role) rows (row ∷ [])
+    ∙ ap (λ r. r ++ sense_with row.role ∷ []) same
+    ∙ ap (λ s. map (λ k. sense_after (field 0 k)) (data_of (codes "ROWS") ls) ++ s ∷ []) (ap sense_with role ∙ sense_is (not (nat_eq (length (free_rows ls)) 0)) (sense_after (field 0 l)))
+    ∙ sym (ap (map (λ k. sense_after (field 0 k))) (data_then (codes "ROWS") ls l words d) ∙ map-append (λ k. sense_after (field 0 k)) (data_of (codes "ROWS") ls) (l ∷ []))
 
 -- ---- a number for a row of RHS or RANGES
 

@@ -23,9 +23,10 @@ use Rattle.mps_reader.specs.declared.MpsKind.{MpsKind}
 use Rattle.mps_reader.specs.declared.MpsKind.TheVariants.{Duplicate, UnknownRow}
 use Rattle.mps_reader.proofs.OpeningLemmas.{bytes_eq-refl, filter_map-append}
 use Rattle.mps_reader.proofs.BoundLemmas.{data_then}
-use Rattle.mps_reader.proofs.TableLemmas.{table_get, table_set, table_along, place_has, none_passes}
+use Rattle.mps_reader.proofs.TableLemmas.{table_get, table_set, table_along, place_has, none_passes, map_along}
 use Rattle.mps_reader.proofs.EntryLemmas.{one_kind, first_entry, next_entry, entry_other, given_other, given_some, number_new, number_other}
 use Rattle.mps_reader.proofs.RoleLemmas.{is_row-names, side_kind_is}
+use Rattle.mps_reader.specs.RowTables.{sense_with}
 
 -- a name with a place is there, and differs from one that isn't
 pub placed : (names : List (List ℕ)) (n : List ℕ) (k : ℕ) → position (bytes_eq n) names ≡ Some k → is_one_of names n ≡ true
@@ -39,8 +40,9 @@ placed names n k at = elim (cases_Bool (is_one_of names n)) [
 pub differs : (names : List (List ℕ)) (n m : List ℕ) → is_one_of names n ≡ true → is_one_of names m ≡ false → bytes_eq n m ≡ false
 differs names n m is absent = false_from_ne_true (bytes_eq n m) (λ e. true≢false (sym is ∙ ap (is_one_of names) ((bytes_eq-Decides n m).0 e) ∙ absent))
 
-pub role_as : (ls : List Line) (n : List ℕ) (x y : RowDraft) → y.role ≡ x.role → HasRole ls n x → HasRole ls n y
-role_as ls n x y e h = record {
+pub role_as : (ls : List Line) (n : List ℕ) (x y : RowDraft) → y.role ≡ x.role → y.name ≡ x.name → HasRole ls n x → HasRole ls n y
+role_as ls n x y e named h = record {
+  named = named ∙ h.named;
   free = h.free ∙ ap (λ r. not (makes_term r)) (sym e);
   objective = h.objective ∙ ap is_objective_role (sym e);
   kept = h.kept ∙ ap makes_term (sym e);
@@ -51,7 +53,8 @@ rows_along side names old new ls along rows = record {
   called = rows.called;
   distinct = rows.distinct;
   roles = table_along (IsSameBesides side) (HasRole ls) (HasRole ls) names old new
-      (λ m x y r h. role_as ls m x y r.role h) along rows.roles;
+      (λ m x y r h. role_as ls m x y r.role r.name h) along rows.roles;
+  senses = map_along (IsSameBesides side) (λ row. sense_with row.role) old new (λ x y r. ap sense_with r.role) along ∙ rows.senses;
 }
 
 none_before : (b : Bool) (o : Option MpsKind) → or_else (first_kind ((b, Duplicate) ∷ [])) o ≡ None → b ≡ false

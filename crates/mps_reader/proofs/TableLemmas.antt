@@ -1,5 +1,5 @@
 -- How items and their names go on: a write, one more, and a change of what is said of them.
-use Rattle.std.proofs.Common.{◌≡◌, ◌≢◌, ◌∙◌, ap, sym, subst, ℕ, ◌<◌, ◌+◌, Bool, false, List, [], ◌∷◌, ◌++◌, length, get_or, set, Some, arith, inl, inr, zero, suc}
+use Rattle.std.proofs.Common.{◌≡◌, ◌≢◌, ◌∙◌, ap, sym, subst, ℕ, ◌<◌, ◌+◌, Bool, false, List, [], ◌∷◌, ◌++◌, length, get_or, set, Some, arith, inl, inr, zero, suc, map, refl}
 use Rattle.std.specs.Prelude.{bytes_eq}
 use Rattle.std.specs.List.{list_any, position, IsDistinct}
 use Rattle.std.proofs.lemmas.Bool.{cases_eq, cases_lt, cases_order, or_parts}
@@ -103,6 +103,16 @@ module _ {X : Type 0} where
           | inr ne ↦ subst (λ (z : X). R (get_or items j d) z) (sym (get_or-set_other items k j x d ne)) (same (get_or items j d))
         ];
   }
+
+  -- what related items share
+  pub map_along : {Y : Type 0} (R : X → X → Type 0) (f : X → Y) (old new : List X) → ((x y : X) → R x y → f y ≡ f x) → IsAlong R old new → map f new ≡ map f old
+  map_along R f [] [] same along = refl
+  map_along R f [] (y ∷ new) same along = let h : length (y ∷ new) ≡ 0 = along.size in absurd (omega (arith, h))
+  map_along R f (x ∷ old) [] same along = let h : 0 ≡ length (x ∷ old) = along.size in absurd (omega (arith, h))
+  map_along R f (x ∷ old) (y ∷ new) same along =
+      let size : length (y ∷ new) ≡ length (x ∷ old) = along.size in
+      let rest : IsAlong R old new = record { size = omega (arith, size); each = λ j d h. along.each (suc j) d (omega (arith, h)) } in
+      ap (λ z. z ∷ map f new) (same x y (along.each 0 x (omega arith))) ∙ ap (λ r. f x ∷ r) (map_along R f old new same rest)
 
   pub along_both : (R : X → X → Type 0) (one two three : List X) → ((x y z : X) → R x y → R y z → R x z) → IsAlong R one two → IsAlong R two three → IsAlong R one three
   along_both R one two three chain a b = record {

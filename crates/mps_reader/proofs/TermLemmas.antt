@@ -1,15 +1,13 @@
 -- What a pair of COLUMNS does to the rows.
-use Rattle.std.proofs.Common.{◌≡◌, ◌∙◌, ap, sym, subst, ℕ, ℤ, pos, ◌+◌, ◌-◌, ◌<◌, ◌≤◌, Bool, true, false, ◌||◌, ◌&&◌, not, cond, nat_lt, nat_le, unsigned_abs, List, [], ◌∷◌, ◌++◌, length, get_or, set, Option, Some, None, Result, Ok, Err, refl, arith, Bor, inl, inr, FitsSigned, w64, of_z, to_z}
-use Rattle.std.specs.Prelude.{IfSome, bytes_eq, if◌then◌else◌, ◌^◌}
+use Rattle.std.proofs.Common.{◌≡◌, ◌∙◌, ap, sym, subst, ℕ, ℤ, pos, ◌+◌, ◌-◌, ◌<◌, ◌≤◌, Bool, true, false, ◌||◌, ◌&&◌, not, cond, nat_lt, nat_le, unsigned_abs, List, [], ◌∷◌, ◌++◌, length, get_or, set, Option, Some, None, refl, arith, Bor, inl, inr, FitsSigned, w64, of_z, to_z, append-nil}
+use Rattle.std.specs.Prelude.{IfSome, bytes_eq, if◌then◌else◌, ◌^◌, unwrap_or}
 use Rattle.std.specs.List.{position}
 use Rattle.std.proofs.lemmas.Bool.{true≢false, and_left, and_right, cases_lt, lt-ltb, le-ltb, le-leb, lt-leb, eq-eqb, leb-false}
 use Rattle.std.proofs.lemmas.List.{append_assoc}
 use Rattle.std.proofs.lemmas.Int.{ints, to_z-of_z}
-use Rattle.num_text.specs.NumberText.{number_of}
-use Rattle.num_text.specs.declared.number.NumberError.{NumberError}
 use Rattle.mps_reader.specs.MpsLines.{Line, Entry, is_dropped, is_kept, is_objective, is_one_of, last_of}
-use Rattle.mps_reader.specs.MpsRules.{is_row, or_else, first_kind, number_kind, is_nonzero, is_nonzero_result, term_kind, term_count, entries_kind}
-use Rattle.mps_reader.specs.MpsModels.{number_or_zero, ok_or_zero}
+use Rattle.mps_reader.specs.MpsRules.{is_row, or_else, first_kind, number_kind, is_nonzero, term_kind, term_count, entries_kind}
+use Rattle.mps_reader.specs.MpsModels.{number_or_zero}
 use Rattle.mps_reader.specs.Faults.{IsFault}
 use Rattle.mps_reader.specs.Tables.{IsAlong, texts_of}
 use Rattle.mps_reader.specs.ColumnNumbers.{makes_term, is_unread, is_column, number_for_kind}
@@ -23,19 +21,12 @@ use Rattle.mps_reader.specs.declared.fault.Fault.TheVariants.{Refused, Memory}
 use Rattle.mps_reader.specs.declared.MpsKind.{MpsKind}
 use Rattle.mps_reader.specs.declared.MpsKind.TheVariants.{Duplicate, UnknownRow, TooMany}
 use Rattle.mps_reader.proofs.OpeningLemmas.{or-true, last_in}
-use Rattle.mps_reader.proofs.TableLemmas.{table_get, table_set, table_along}
-use Rattle.mps_reader.proofs.EntryLemmas.{one_kind, first_entry, next_entry, entry_other, entry_own, given_other, is_given-push, term_added}
+use Rattle.mps_reader.proofs.TableLemmas.{table_get, table_set, table_along, map_along}
+use Rattle.mps_reader.proofs.EntryLemmas.{one_kind, first_entry, next_entry, entry_other, entry_own, given_other, is_given-push, term_added, nonzero_is, number_other}
 use Rattle.mps_reader.proofs.RoleLemmas.{is_row-names}
 use Rattle.mps_reader.proofs.SideLemmas.{placed, differs, role_as}
-
--- ---- numbers
-
-nonzero_result : (r : Result ℤ NumberError) → is_nonzero_result r ≡ nat_lt 0 (unsigned_abs (ok_or_zero r))
-nonzero_result (Ok z) = refl
-nonzero_result (Err e) = refl
-
-pub nonzero_is : (text : List ℕ) → is_nonzero text ≡ nat_lt 0 (unsigned_abs (number_or_zero text))
-nonzero_is text = nonzero_result (number_of text)
+use Rattle.mps_reader.specs.RowTables.{sense_with}
+use Rattle.mps_reader.proofs.TermLists.{terms_added, terms_same}
 
 -- ---- the kind
 
@@ -74,6 +65,10 @@ by_role (Kept s) G Z L o = refl
 given_none : (G : Bool) (o p : Option MpsKind) → or_else (or_else (first_kind ((G, Duplicate) ∷ [])) o) p ≡ None → G ≡ false
 given_none true o p e = absurd (cc)
 given_none false o p e = refl
+
+first_given : (b G : Bool) (o p : Option MpsKind) → b ≡ false → (if b then None else or_else (or_else (first_kind ((G, Duplicate) ∷ [])) o) p) ≡ None → G ≡ false
+first_given true G o p reads e = absurd (true≢false reads)
+first_given false G o p reads e = given_none G o p e
 
 many_none : (b : Bool) (o : Option MpsKind) → or_else o (first_kind ((b, TooMany) ∷ [])) ≡ None → b ≡ false
 many_none false o e = refl
@@ -120,8 +115,8 @@ module _ (names : List (List ℕ)) (old : List RowDraft) (k : ℕ) (r : RowDraft
   pub term_refused_at : (kind : MpsKind) → number_for_kind r.role (is_column r.last_column column) count text ≡ Some kind → entries_kind (term_kind ls) es (entry_with owner n text ∷ []) ≡ Some kind
   term_refused_at kind e = one_kind (term_kind ls) es (entry_with owner n text) ∙ kind_here ∙ e
 
-  pub term_taken_at : (new : RowDraft) (new_count : ℕ) → number_for_kind r.role (is_column r.last_column column) count text ≡ None → new.role ≡ r.role → (is_unread r.role ≡ false → new.last_column ≡ Some column) → ((j : ℕ) → new.last_column ≡ Some j → j < length columns) → new_count ≡ count + cond (makes_term r.role && is_nonzero text) 1 0 → (entries_kind (term_kind ls) es (entry_with owner n text ∷ []) ≡ None) × EntriesAgree names (set old k new) columns new_count ls (es ++ entry_with owner n text ∷ [])
-  term_taken_at new new_count good role given below counts =
+  pub term_taken_at : (new : RowDraft) (new_count : ℕ) → number_for_kind r.role (is_column r.last_column column) count text ≡ None → new.role ≡ r.role → (is_unread r.role ≡ false → new.last_column ≡ Some column) → ((j : ℕ) → new.last_column ≡ Some j → j < length columns) → new_count ≡ count + cond (makes_term r.role && is_nonzero text) 1 0 → (is_unread r.role ≡ false → new.terms.items ≡ r.terms.items ++ cond (is_nonzero text) ((column, number_or_zero text) ∷ []) []) → (entries_kind (term_kind ls) es (entry_with owner n text ∷ []) ≡ None) × EntriesAgree names (set old k new) columns new_count ls (es ++ entry_with owner n text ∷ [])
+  term_taken_at new new_count good role given below counts listed =
       let e : Entry = entry_with owner n text in
       let here : HasLast columns (es ++ e ∷ []) n new = record {
         same = λ o at_last reads.
@@ -131,15 +126,20 @@ module _ (names : List (List ℕ)) (old : List RowDraft) (k : ℕ) (r : RowDraft
             let right : is_given (es ++ e ∷ []) owner n ≡ true = is_given-push es e owner n ∙ ap (λ b. is_given es owner n || b) (entry_own e) ∙ or-true (is_given es owner n) in
             left ∙ sym right ∙ ap (λ w. is_given (es ++ e ∷ []) w n) (sym mine);
         below = below;
+        terms = λ reads.
+            let unread : is_unread r.role ≡ false = ap is_unread (sym role) ∙ reads in
+            let first : is_given es owner n ≡ false = given_here unread ∙ first_given (is_unread r.role) (is_column r.last_column column) (number_kind (10 ^ 9) text) (first_kind ((makes_term r.role && is_nonzero text && nat_le 100000 count, TooMany) ∷ [])) unread good in
+            listed unread ∙ ap (λ ts. ts ++ cond (is_nonzero text) ((column, number_or_zero text) ∷ []) []) (last_here.terms unread) ∙ sym (terms_added es columns owner n text column ends agree.apart size first);
       } in (
         one_kind (term_kind ls) es e ∙ kind_here ∙ good,
         record {
           last = table_set (HasLast columns es) (HasLast columns (es ++ e ∷ [])) names old n k new rows.distinct at agree.last here
-              (λ m y other h. record { same = λ o at_last reads. h.same o at_last reads ∙ sym (given_other es e o m (entry_other e o m other)); below = h.below });
+              (λ m y other h. record { same = λ o at_last reads. h.same o at_last reads ∙ sym (given_other es e o m (entry_other e o m other)); below = h.below; terms = λ reads. h.terms reads ∙ sym (terms_same 0 es (es ++ e ∷ []) columns m (λ c. ap (λ g. unwrap_or g (pos 0)) (number_other es e c m (entry_other e c m other)))) });
           rows_known = λ m absent o. given_other es e o m (entry_other e o m (differs names n m (placed names n k at) absent)) ∙ agree.rows_known m absent o;
           owners_known = λ o absent m. given_other es e o m (and_left (bytes_eq owner o) (bytes_eq n m) (differs columns owner o (last_in columns owner ends) absent)) ∙ agree.owners_known o absent m;
           counted = counts ∙ sym counted_then;
           few = subst (λ (c : ℕ). c ≤ 100000) (sym counts) (room_of r.role (is_column r.last_column column) (is_nonzero text) count (number_kind (10 ^ 9) text) agree.few good);
+          apart = agree.apart;
         },
       )
     where
@@ -148,10 +148,10 @@ module _ (names : List (List ℕ)) (old : List RowDraft) (k : ℕ) (r : RowDraft
 
 module _ (keys : List (Bor (List ℕ))) (old : List RowDraft) (k : ℕ) (r : RowDraft) (n text : List ℕ) (column count : ℕ) (at : position (bytes_eq n) (texts_of keys) ≡ Some k) (read : r ≡ get_or old k r) where
   -- a number that is noted
-  pub term_taken : (new : RowDraft) (new_count : ℕ) → number_for_kind r.role (is_column r.last_column column) count text ≡ None → new.role ≡ r.role → new.last_column ≡ Some column → new_count ≡ count + cond (makes_term r.role && is_nonzero text) 1 0 → TakesTerms keys column old count (set old k new) new_count (n ∷ text ∷ [])
-  term_taken new new_count good role noted counts = λ ls es columns owner rows agree last size.
+  pub term_taken : (new : RowDraft) (new_count : ℕ) → number_for_kind r.role (is_column r.last_column column) count text ≡ None → new.role ≡ r.role → new.last_column ≡ Some column → new_count ≡ count + cond (makes_term r.role && is_nonzero text) 1 0 → new.terms.items ≡ r.terms.items ++ cond (is_nonzero text) ((column, number_or_zero text) ∷ []) [] → TakesTerms keys column old count (set old k new) new_count (n ∷ text ∷ [])
+  term_taken new new_count good role noted counts listed = λ ls es columns owner rows agree last size.
       term_taken_at (texts_of keys) old k r n text column count at read ls es columns owner rows agree last size new new_count good role (λ reads. noted)
-      (λ j e. let same : column ≡ j = column_same column j (sym noted ∙ e) in omega (arith, same, size)) counts
+      (λ j e. let same : column ≡ j = column_same column j (sym noted ∙ e) in omega (arith, same, size)) counts (λ reads. listed)
     where
       column_same : (i j : ℕ) → Some i ≡ Some j → i ≡ j
       column_same i j e = cc
@@ -160,7 +160,7 @@ module _ (keys : List (Bor (List ℕ))) (old : List RowDraft) (k : ℕ) (r : Row
   pub term_unread : number_for_kind r.role (is_column r.last_column column) count text ≡ None → is_unread r.role ≡ true → TakesTerms keys column old count (set old k r) count (n ∷ text ∷ [])
   term_unread good unread = λ ls es columns owner rows agree last size.
       let below = (last_here (texts_of keys) old k r n text column count at read ls es columns owner rows agree last size).below in
-      term_taken_at (texts_of keys) old k r n text column count at read ls es columns owner rows agree last size r count good refl (λ reads. absurd (true≢false (sym unread ∙ reads))) below (no_term r.role (is_nonzero text) count unread)
+      term_taken_at (texts_of keys) old k r n text column count at read ls es columns owner rows agree last size r count good refl (λ reads. absurd (true≢false (sym unread ∙ reads))) below (no_term r.role (is_nonzero text) count unread) (λ reads. absurd (true≢false (sym unread ∙ reads)))
     where
       no_term : (R : RowRole) (Z : Bool) (c : ℕ) → is_unread R ≡ true → c ≡ c + cond (makes_term R && Z) 1 0
       no_term Objective Z c e = absurd (true≢false (sym e))
@@ -182,7 +182,8 @@ pub roles_along : (names : List (List ℕ)) (old new : List RowDraft) (ls : List
 roles_along names old new ls along rows = record {
   called = rows.called;
   distinct = rows.distinct;
-  roles = table_along HasSameSides (HasRole ls) (HasRole ls) names old new (λ m x y r h. role_as ls m x y r.role h) along rows.roles;
+  roles = table_along HasSameSides (HasRole ls) (HasRole ls) names old new (λ m x y r h. role_as ls m x y r.role r.name h) along rows.roles;
+  senses = map_along HasSameSides (λ row. sense_with row.role) old new (λ x y r. ap sense_with r.role) along ∙ rows.senses;
 }
 
 module _ (keys others : List (Bor (List ℕ))) (column : ℕ) (old middle : List RowDraft) (count middle_count : ℕ) (a b x y : List ℕ) (same : others ≡ keys) where
@@ -220,24 +221,33 @@ pub value_of : (b : Bool) (y z : ℤ) (o : Option ℤ) → o ≡ (if b then None
 value_of true y z o e some = absurd (cc)
 value_of false y z o e some = cc
 
+pub listed_more : (Z : Bool) (ts us : List (ℕ × ℤ)) (column : ℕ) (v z : ℤ) → Z ≡ true → v ≡ z → us ≡ ts ++ (column, v) ∷ [] → us ≡ ts ++ cond Z ((column, z) ∷ []) []
+listed_more Z ts us column v z e same pushed = pushed ∙ ap (λ w. ts ++ (column, w) ∷ []) same ∙ ap (λ b. ts ++ cond b ((column, z) ∷ []) []) (sym e)
+
+pub listed_same : (Z : Bool) (ts : List (ℕ × ℤ)) (column : ℕ) (z : ℤ) → Z ≡ false → ts ≡ ts ++ cond Z ((column, z) ∷ []) []
+listed_same Z ts column z e = sym (append-nil ts) ∙ ap (λ b. ts ++ cond b ((column, z) ∷ []) []) (sym e)
+
+pub count_with : (R : RowRole) (Z : Bool) (c n : ℕ) → Z ≡ true → n ≡ c + cond (makes_term R) 1 0 → n ≡ c + cond (makes_term R && Z) 1 0
+count_with R Z c n e h = h ∙ ap (λ b. c + cond b 1 0) (sym (ap (λ z. makes_term R && z) e ∙ and_true (makes_term R)))
+  where
+    and_true : (b : Bool) → (b && true) ≡ b
+    and_true true = refl
+    and_true false = refl
+
 pub count_same : (R : RowRole) (Z : Bool) (c : ℕ) → (makes_term R && Z) ≡ false → c ≡ c + cond (makes_term R && Z) 1 0
 count_same R Z c e = rw e (omega arith)
-
-pub count_more : (R : RowRole) (Z : Bool) (c : ℕ) → (makes_term R && Z) ≡ true → c + 1 ≡ c + cond (makes_term R && Z) 1 0
-count_more R Z c e = rw e refl
 
 above_zero : (z : ℤ) → (z ≡ pos 0 → ⊥) → 0 < unsigned_abs z
 above_zero z ne = omega (arith, ints, ne)
 
-pub is_term : (R : RowRole) (text : List ℕ) (z : ℤ) → makes_term R ≡ true → z ≡ number_or_zero text → (of_z w64 z ≡ 0 → ⊥) → (makes_term R && is_nonzero text) ≡ true
-is_term R text z kept same ne =
-    ap (λ b. b && is_nonzero text) kept ∙ nonzero_is text ∙ ap (λ v. nat_lt 0 (unsigned_abs v)) (sym same) ∙ lt-ltb 0 (unsigned_abs z) (above_zero z (λ e. ne (ap (of_z w64) e)))
+pub is_number : (text : List ℕ) (z : ℤ) → z ≡ number_or_zero text → (of_z w64 z ≡ 0 → ⊥) → is_nonzero text ≡ true
+is_number text z same ne = nonzero_is text ∙ ap (λ v. nat_lt 0 (unsigned_abs v)) (sym same) ∙ lt-ltb 0 (unsigned_abs z) (above_zero z (λ e. ne (ap (of_z w64) e)))
 
-pub is_no_term : (R : RowRole) (text : List ℕ) (z : ℤ) → unsigned_abs z ≤ 1000000000 → z ≡ number_or_zero text → of_z w64 z ≡ 0 → (makes_term R && is_nonzero text) ≡ false
-is_no_term R text z limit same e =
+pub is_no_number : (text : List ℕ) (z : ℤ) → unsigned_abs z ≤ 1000000000 → z ≡ number_or_zero text → of_z w64 z ≡ 0 → is_nonzero text ≡ false
+is_no_number text z limit same e =
     let fits : FitsSigned w64 z = omega (arith, ints, limit) in
     let zero : z ≡ pos 0 = sym (to_z-of_z w64 z fits) ∙ ap (to_z w64) e in
-    and_right (makes_term R) (is_nonzero text) (nonzero_is text ∙ ap (λ v. nat_lt 0 (unsigned_abs v)) (sym same ∙ zero))
+    nonzero_is text ∙ ap (λ v. nat_lt 0 (unsigned_abs v)) (sym same ∙ zero)
 
 pub some_limit : (o : Option ℤ) (z : ℤ) → o ≡ Some z → IfSome o (λ v. unsigned_abs v ≤ 1000000000) → unsigned_abs z ≤ 1000000000
 some_limit o z e h = let at_some = rw e at h in at_some

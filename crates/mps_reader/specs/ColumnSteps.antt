@@ -1,5 +1,5 @@
 -- What a pair or a line of COLUMNS does to the columns and the rows.
-use Rattle.std.specs.Prelude.{◌≡◌, ◌+◌, ℕ, pos, Bool, true, false, List, [], ◌∷◌, ◌++◌, length, nat_le, codes, Option, Some, None}
+use Rattle.std.specs.Prelude.{◌≡◌, ◌+◌, ℕ, Bool, true, false, List, [], ◌∷◌, ◌++◌, length, nat_le, codes, Option, Some, None}
 use Rattle.std.specs.Borrow.{Bor}
 use Rattle.mps_reader.specs.MpsLines.{Line, Entry, field, pairs, is_marker, starts_column, entries_of, is_one_of, last_of}
 use Rattle.mps_reader.specs.MpsRules.{entries_kind, term_kind, column_kind, is_long}
@@ -19,7 +19,7 @@ pub record HasSameSides (old new : RowDraft) : Type 0 where
   pub rhs : new.rhs ≡ old.rhs
   pub range : new.range ≡ old.range
 
--- all but the cost is the same
+-- the columns are the same
 pub record HasSameBounds (old new : ColumnDraft) : Type 0 where
   pub name : new.name ≡ old.name
   pub marked : new.is_marked ≡ old.is_marked
@@ -35,7 +35,6 @@ RefusesTerms keys column old count words fault = (ls : List Line) (es : List Ent
 -- a column of which only its first line has spoken
 pub record IsBegunColumn (column : ColumnDraft) (name : List ℕ) (part : Bool) : Type 0 where
   pub named : column.name ≡ name
-  pub cost : column.cost ≡ pos 0
   pub marked : column.is_marked ≡ part
   pub bounds : BoundsAgree column.bounds []
 

@@ -1,9 +1,9 @@
 -- The draft of a model, behind lines of a text.
 use Rattle.std.specs.Prelude.{◌≡◌, ℕ, Bool, true, false, List, [], ◌∷◌, ◌++◌, None, codes, option_map, unwrap_or, if◌then◌else◌}
-use Rattle.mps_reader.specs.MpsLines.{Line, field, headers_of, last_of, entries_of, sets_of}
-use Rattle.mps_reader.specs.MpsRules.{line_kind}
+use Rattle.mps_reader.specs.MpsLines.{Line, field, column_names, headers_of, last_of, entries_of, sets_of}
+use Rattle.mps_reader.specs.MpsRules.{line_kind, direction_words}
 use Rattle.mps_reader.specs.MpsModels.{is_end}
-use Rattle.mps_reader.specs.Openings.{HeadersAgree}
+use Rattle.mps_reader.specs.Openings.{HeadersAgree, direction_of}
 use Rattle.mps_reader.specs.RowTables.{RowsReady}
 use Rattle.mps_reader.specs.Sets.{AgreesWith}
 use Rattle.mps_reader.specs.Tables.{texts_of}
@@ -27,6 +27,16 @@ pub record Agrees (d : Draft) (ls : List Line) : Type 0 where
   pub rhs_sets : AgreesWith d.rhs_set.first (sets_of (codes "RHS") ls)
   pub range_sets : AgreesWith d.range_set.first (sets_of (codes "RANGES") ls)
   pub bound_sets : AgreesWith d.bound_set.first (sets_of (codes "BOUNDS") ls)
+
+-- the rows, the columns and the direction are what the lines say
+pub record HasParts (d : Draft) (ls : List Line) : Type 0 where
+  pub roles : RowsAgree (texts_of d.rows.table.names.keys) d.rows.table.items.items ls
+  pub sides : SideAgrees Rhs (texts_of d.rows.table.names.keys) d.rows.table.items.items (entries_of (codes "RHS") ls)
+  pub ranges : SideAgrees Range (texts_of d.rows.table.names.keys) d.rows.table.items.items (entries_of (codes "RANGES") ls)
+  pub called : texts_of d.columns.table.names.keys ≡ column_names ls
+  pub bounds : ColumnsAgree (texts_of d.columns.table.names.keys) d.columns.table.items.items ls
+  pub numbers : EntriesAgree (texts_of d.rows.table.names.keys) d.rows.table.items.items (texts_of d.columns.table.names.keys) d.columns.entries ls (entries_of (codes "COLUMNS") ls)
+  pub direction : d.headers.direction ≡ direction_of (direction_words ls)
 
 -- the section of the last header
 abbrev pub section_behind : List Line → List ℕ

@@ -21,4 +21,5 @@ pub mod SideSteps
 pub mod ColumnSteps
 pub mod Drafts
 pub mod Endings
+pub mod MadeRows
 pub mod Readings

@@ -1,5 +1,5 @@
 -- The model that a text has.
-use Rattle.std.specs.Prelude.{ℕ, ◌+◌, ℤ, pos, neg_ℤ, int_lt, unsigned_abs, Bool, true, false, ◌&&◌, ◌||◌, not, nat_eq, nat_lt, if◌then◌else◌, List, slice_get, [], ◌∷◌, ◌++◌, length, filter, filter_map, find, count_by, codes, Option, Some, None, option_map, option_and_then, is_some, is_none, unwrap_or, Ok, Err, Result, map, bytes_eq}
+use Rattle.std.specs.Prelude.{ℕ, ◌+◌, ℤ, pos, neg_ℤ, int_lt, unsigned_abs, Bool, true, false, ◌&&◌, ◌||◌, not, nat_eq, nat_lt, if◌then◌else◌, List, [], ◌∷◌, ◌++◌, length, filter, filter_map, find, count_by, codes, Option, Some, None, option_map, option_and_then, is_some, is_none, unwrap_or, Ok, Err, Result, map, bytes_eq}
 use Rattle.std.specs.Option.{option_map_or}
 use Rattle.std.specs.List.{list_any, enumerate_from}
 use Rattle.num_text.specs.Lines.{lines_of}
@@ -27,8 +27,12 @@ number_or_zero text = ok_or_zero (number_of text)
 abbrev pub given : List Entry → List ℕ → List ℕ → Option ℤ
 given es owner row = option_map (λ (e : Entry). number_or_zero e.text) (find (λ (e : Entry). bytes_eq e.owner owner && bytes_eq e.row row) es)
 
+-- the same, 0 where it isn't given
+abbrev pub number_in : List Entry → List ℕ → List ℕ → ℤ
+number_in es column row = unwrap_or (given es column row) (pos 0)
+
 abbrev pub entry_of : List Line → List ℕ → List ℕ → ℤ
-entry_of ls column row = unwrap_or (given (entries_of (codes "COLUMNS") ls) column row) (pos 0)
+entry_of ls column row = number_in (entries_of (codes "COLUMNS") ls) column row
 
 -- ---- bounds
 
@@ -102,14 +106,21 @@ end_kind ls (column ∷ columns) = or_else (column_end_kind ls column) (end_kind
 abbrev pub sense_of : List ℕ → RowSense
 sense_of word = if bytes_eq word (codes "L") then L else if bytes_eq word (codes "G") then G else E
 
+abbrev pub first_name : List (List ℕ) → Option (List ℕ)
+first_name [] = None
+first_name (n ∷ ns) = Some n
+
 -- the objective row's name
 abbrev pub objective_of : List Line → Option (List ℕ)
-objective_of ls = slice_get (free_rows ls) 0
+objective_of ls = first_name (free_rows ls)
+
+abbrev pub cost_of : List Line → List ℕ → ℤ
+cost_of ls name = unwrap_or (option_map (entry_of ls name) (objective_of ls)) (pos 0)
 
 abbrev pub column_of : List Line → List ℕ → Column
 column_of ls name = record {
   name = name;
-  cost = unwrap_or (option_map (entry_of ls name) (objective_of ls)) (pos 0);
+  cost = cost_of ls name;
   low = unwrap_or (low_of ls name) (pos 0);
   high = unwrap_or (high_of ls name) (pos 0);
 }
@@ -117,8 +128,12 @@ column_of ls name = record {
 abbrev pub is_not_zero : ℤ → Bool
 is_not_zero z = nat_lt 0 (unsigned_abs z)
 
+-- a row's numbers that aren't 0, with the numbers of their columns, which are counted from first
+abbrev pub terms_from : ℕ → List Entry → List (List ℕ) → List ℕ → List (ℕ × ℤ)
+terms_from first es columns row = filter (λ (t : ℕ × ℤ). is_not_zero t.1) (map (λ (c : ℕ × List ℕ). (c.0, number_in es c.1 row)) (enumerate_from first columns))
+
 abbrev pub terms_of : List Line → List ℕ → List (ℕ × ℤ)
-terms_of ls row = filter (λ (t : ℕ × ℤ). is_not_zero t.1) (map (λ (c : ℕ × List ℕ). (c.0, entry_of ls c.1 row)) (enumerate_from 0 (column_names ls)))
+terms_of ls row = terms_from 0 (entries_of (codes "COLUMNS") ls) (column_names ls) row
 
 abbrev pub row_of : List Line → Line → Row
 row_of ls l = record {

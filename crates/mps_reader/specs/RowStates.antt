@@ -3,8 +3,9 @@ use Rattle.std.specs.Prelude.{◌≡◌, ◌<◌, ◌≤◌, ◌-◌, ℕ, Bool,
 use Rattle.std.specs.List.{list_any, IsDistinct}
 use Rattle.mps_reader.specs.MpsLines.{Line, Entry, field, data_of, free_rows, is_kept, is_objective, is_dropped, is_one_of, last_of}
 use Rattle.mps_reader.specs.MpsRules.{term_count, set_kind}
-use Rattle.mps_reader.specs.MpsModels.{given}
+use Rattle.mps_reader.specs.MpsModels.{given, terms_from}
 use Rattle.mps_reader.specs.Tables.{IsTable}
+use Rattle.mps_reader.specs.RowTables.{sense_with, sense_after}
 use Rattle.mps_reader.specs.ColumnNumbers.{makes_term, is_unread, is_column}
 use Rattle.mps_reader.specs.SideNumbers.{ignores, side_of}
 use Rattle.mps_reader.specs.declared.MpsKind.{MpsKind}
@@ -29,11 +30,13 @@ pub record HasRole (ls : List Line) (name : List ℕ) (row : RowDraft) : Type 0 
   pub free : is_one_of (free_rows ls) name ≡ not (makes_term row.role)
   pub objective : is_objective ls name ≡ is_objective_role row.role
   pub kept : is_kept ls name ≡ makes_term row.role
+  pub named : row.name ≡ name
 
 pub record RowsAgree (names : List (List ℕ)) (rows : List RowDraft) (ls : List Line) : Type 0 where
   pub called : names ≡ row_names ls
   pub distinct : IsDistinct bytes_eq names
   pub roles : IsTable (HasRole ls) names rows
+  pub senses : map (λ r. sense_with r.role) rows ≡ map (λ l. sense_after (field 0 l)) (data_of (codes "ROWS") ls)
 
 -- ---- numbers of RHS and RANGES
 
@@ -72,10 +75,12 @@ side_line_kind side ls l = set_kind (word_of_side side) (ignored_by side ls) (mo
 
 -- ---- numbers of COLUMNS
 
--- the last column that gave the row a number is the last column, exactly where that has given it one
+-- the last column that gave the row a number is the last column, exactly where that has given it one; the terms are
+-- those of all columns
 pub record HasLast (columns : List (List ℕ)) (es : List Entry) (name : List ℕ) (row : RowDraft) : Type 0 where
   pub same : (o : List ℕ) → last_of columns ≡ Some o → is_unread row.role ≡ false → is_column row.last_column (length columns - 1) ≡ is_given es o name
   pub below : (k : ℕ) → row.last_column ≡ Some k → k < length columns
+  pub terms : is_unread row.role ≡ false → row.terms.items ≡ terms_from 0 es columns name
 
 pub record EntriesAgree (names : List (List ℕ)) (rows : List RowDraft) (columns : List (List ℕ)) (count : ℕ) (ls : List Line) (es : List Entry) : Type 0 where
   pub last : IsTable (HasLast columns es) names rows
@@ -83,3 +88,4 @@ pub record EntriesAgree (names : List (List ℕ)) (rows : List RowDraft) (column
   pub owners_known : (o : List ℕ) → is_one_of columns o ≡ false → (n : List ℕ) → is_given es o n ≡ false
   pub counted : count ≡ term_count ls es
   pub few : count ≤ 100000
+  pub apart : IsDistinct bytes_eq columns

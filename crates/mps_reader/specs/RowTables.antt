@@ -21,6 +21,12 @@ role_with has_objective (Some sense) = Kept sense
 role_with true None = Dropped
 role_with false None = Objective
 
+-- the sense of a row with this role
+abbrev pub sense_with : RowRole → Option RowSense
+sense_with Objective = None
+sense_with Dropped = None
+sense_with (Kept sense) = Some sense
+
 abbrev pub role_after : List Line → Line → RowRole
 role_after earlier l = role_with (not (nat_eq (length (free_rows earlier)) 0)) (sense_after (field 0 l))
 

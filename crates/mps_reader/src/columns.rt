@@ -24,7 +24,6 @@ use std::alloc::Global;
 #[derive(Drop)]
 pub(crate) struct ColumnDraft {
     pub(crate) name: Name,
-    pub(crate) cost: i64,
     /// Whether the column began in an integer part.
     pub(crate) is_marked: bool,
     pub(crate) bounds: Bounds,
@@ -78,7 +77,8 @@ impl<'a> Columns<'a> {
 
     /// The columns, in order.
     pub(crate) fn into_items(self) -> Vec<ColumnDraft>
-        ensures { result ≡ self.entry.table.items }
+        ensures items { result ≡ self.entry.table.items }
+        ensures few { length result.items ≤ 1000 }
     {
         let Columns {
             table,
@@ -185,7 +185,6 @@ impl<'a> Columns<'a> {
         }
         let draft = ColumnDraft {
             name,
-            cost: 0,
             is_marked: self.in_integer_part,
             bounds: Bounds::new(),
         };
@@ -222,18 +221,9 @@ impl<'a> Columns<'a> {
             return Ok(());
         };
         draft.last_column = Some(column);
-        match draft.role {
-            RowRole::Dropped => {}
-            RowRole::Objective => {
-                let columns = &mut self.table;
-                columns.items[column as usize].cost = value;
-            }
-            RowRole::Kept(_) => {
-                if value != 0 {
-                    self.entries += 1;
-                    draft.terms.push((column, value))?;
-                }
-            }
+        if value != 0 {
+            self.entries = entries_with(self.entries, draft.role);
+            draft.terms.push((column, value))?;
         }
         Ok(())
     }
@@ -262,6 +252,17 @@ impl<'a> Columns<'a> {
     {
         self.take_pair(rows, column, row, number)?;
         self.take_pair(rows, column, second_row, second_number)
+    }
+}
+
+// How many terms the rows have behind one more of a row of this role.
+fn entries_with(entries: usize, role: RowRole) -> usize
+    requires { makes_term role ≡ true → entries < 100000 }
+    ensures { result ≡ entries + (if makes_term role then 1 else 0) }
+{
+    match role {
+        RowRole::Kept(_) => entries + 1,
+        RowRole::Objective | RowRole::Dropped => entries,
     }
 }
 

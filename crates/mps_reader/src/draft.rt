@@ -1,25 +1,25 @@
 // The model of a text, as far as its lines have been read.
-ghost use Rattle.std.specs.Prelude.{◌≡◌, ◌<◌, ◌∷◌, ◌++◌, [], All, List, length, map, codes, bytes_eq, true, false, IfOk, IfErr, OnOk};
+ghost use Rattle.std.specs.Prelude.{◌≡◌, ◌≤◌, ◌+◌, ℕ, ◌<◌, ◌∷◌, ◌++◌, [], All, List, length, map, codes, bytes_eq, true, false, IfOk, IfErr, OnOk};
 ghost use Rattle.mps_reader.specs.MpsRules.{line_kind, header_kind, data_kind};
 ghost use Rattle.mps_reader.specs.TakenLines.{IsHeaderWith};
 ghost use Rattle.mps_reader.specs.Sections.{word_of};
 ghost use Rattle.mps_reader.specs.Openings.{HeadersAgree};
-ghost use Rattle.mps_reader.specs.Drafts.{Agrees, IsLineBehind, IsTaken, is_ended};
+ghost use Rattle.mps_reader.specs.Drafts.{Agrees, HasParts, IsLineBehind, IsTaken, is_ended};
 ghost use Rattle.mps_reader.specs.MpsLines.{Line, column_names};
 ghost use Rattle.mps_reader.specs.Tables.{texts_of};
 ghost use Rattle.mps_reader.specs.ColumnStates.{ColumnsAgree};
 ghost use Rattle.mps_reader.specs.Endings.{IsEndedWith};
 ghost use Rattle.mps_reader.specs.declared.MpsKind.{MpsKind};
-ghost use Rattle.mps_reader.specs.MpsModels.{column_end_kind, end_kind};
+ghost use Rattle.mps_reader.specs.MpsModels.{column_end_kind, end_kind, cost_of, model_of_lines};
 ghost use Rattle.mps_reader.specs.Faults.{IsFault};
-ghost use Rattle.mps_reader.specs.EndedColumns.{IsColumnOf, part_of};
+ghost use Rattle.mps_reader.specs.EndedColumns.{IsColumnOf, part_of, costs_from};
 
 use crate::MpsKind;
 use crate::bounds::take_bound;
 use crate::columns::{ColumnDraft, Columns};
 use crate::fault::{Fault, SetName};
 use crate::header::{Headers, Section};
-use crate::rows::Rows;
+use crate::rows::{RowParts, Rows};
 use crate::sides::Side;
 use int_model::{ColumnPart, Model, ModelError, Parts};
 use std::alloc::Global;
@@ -112,6 +112,7 @@ impl<'a> Draft<'a> {
 
     /// The model, once the text has ended.
     pub(crate) fn into_model(self, alloc: Global) -> Result<Model, Fault>
+        ensures ok { IfOk result (λ m. (ls : List Line) → HasParts self.entry ls → m ≡ model_of_lines ls) }
         ensures ended { (ls : List Line) (kind : MpsKind) → ColumnsAgree (texts_of self.entry.columns.table.names.keys) self.entry.columns.table.items.items ls → texts_of self.entry.columns.table.names.keys ≡ column_names ls → end_kind ls (column_names ls) ≡ Some kind → IsEndedWith kind result }
     {
         let Draft {
@@ -122,15 +123,22 @@ impl<'a> Draft<'a> {
             range_set: _,
             bound_set: _,
         } = self;
-        let columns = column_parts(alloc, columns.into_items())?;
-        let (constant, rows) = rows.into_rows(alloc)?;
+        let RowParts {
+            constant,
+            costs,
+            rows,
+        } = rows.into_parts(alloc)?;
+        let columns = column_parts(alloc, columns.into_items(), &costs)?;
         let parts = Parts {
             columns,
             rows,
             constant,
             direction: headers.direction(),
         };
-        Model::build(alloc, parts).map_err(fault_of)
+        match Model::build(alloc, parts) {
+            Ok(model) => Ok(model),
+            Err(error) => Err(fault_of(error)),
+        }
     }
 }
 
@@ -150,25 +158,48 @@ fn progress_at(section: Section) -> Progress
     }
 }
 
-fn column_parts(alloc: Global, columns: Vec<ColumnDraft>) -> Result<Vec<ColumnPart>, Fault>
-    ensures ok { IfOk result (λ parts. (ls : List Line) → All (IsColumnOf ls) columns.items → (end_kind ls (map (λ c. c.name) columns.items) ≡ None) × (parts.items ≡ map (part_of ls) columns.items)) }
+// The columns at the end of the text. `costs` has the costs that are not 0, by columns, which rise.
+fn column_parts(
+    alloc: Global,
+    columns: Vec<ColumnDraft>,
+    costs: &[(u32, i64)],
+) -> Result<Vec<ColumnPart>, Fault>
+    requires { length columns.items ≤ 1000 }
+    ensures ok { IfOk result (λ parts. (ls : List Line) → All (IsColumnOf ls) columns.items → end_kind ls (map (λ c. c.name) columns.items) ≡ None) }
+    ensures parts { IfOk result (λ parts. (ls : List Line) → All (IsColumnOf ls) columns.items → costs.now ≡ costs_from 0 ls (map (λ c. c.name) columns.items) → parts.items ≡ map (part_of ls) columns.items) }
     ensures err { IfErr result (λ fault. (ls : List Line) → All (IsColumnOf ls) columns.items → IsFault fault (end_kind ls (map (λ c. c.name) columns.items))) }
 {
     let mut parts = Vec::new(alloc);
+    let mut costs = costs;
+    let mut number = 0;
     for draft in columns {
-        parts.push(column_part(draft)?)?;
+        let (cost, rest) = split_cost(costs, number);
+        parts.push(column_part(draft, cost)?)?;
+        costs = rest;
+        number += 1;
     }
     Ok(parts)
 }
 
-fn column_part(draft: ColumnDraft) -> Result<ColumnPart, MpsKind>
-    ensures ok { IfOk result (λ part. (ls : List Line) → IsColumnOf ls draft → (column_end_kind ls draft.name ≡ None) × (part ≡ part_of ls draft)) }
+// The cost of the column with this number, and the costs of the columns behind it.
+fn split_cost(costs: &[(u32, i64)], number: u32) -> (i64, &[(u32, i64)])
+    ensures { (ls : List Line) (name : List ℕ) (names : List (List ℕ)) → costs.now ≡ costs_from number ls (name ∷ names) → (result.0 ≡ cost_of ls name) × (result.1.now ≡ costs_from (number + 1) ls names) }
+{
+    match costs {
+        [(first, cost), rest @ ..] if *first == number => (*cost, rest),
+        _ => (0, costs),
+    }
+}
+
+fn column_part(draft: ColumnDraft, cost: i64) -> Result<ColumnPart, MpsKind>
+    ensures ok { IfOk result (λ part. (ls : List Line) → IsColumnOf ls draft → column_end_kind ls draft.name ≡ None) }
+    ensures part { IfOk result (λ part. (ls : List Line) → IsColumnOf ls draft → cost ≡ cost_of ls draft.name → part ≡ part_of ls draft) }
     ensures err { IfErr result (λ kind. (ls : List Line) → IsColumnOf ls draft → column_end_kind ls draft.name ≡ Some kind) }
 {
     let (low, high) = draft.bounds.sides(draft.is_marked)?;
     Ok(ColumnPart {
         name: draft.name,
-        cost: draft.cost,
+        cost,
         low,
         high,
         implied: draft.bounds.is_implied(draft.is_marked),

@@ -6,7 +6,7 @@ ghost use Rattle.mps_reader.specs.MpsRules.{may_follow, header_kind, direction_k
 ghost use Rattle.mps_reader.specs.Sections.{word_of, words_of};
 ghost use Rattle.mps_reader.specs.Faults.{IsFault};
 ghost use Rattle.mps_reader.specs.TakenLines.{IsHeaderWith, IsDataWith};
-ghost use Rattle.mps_reader.specs.Openings.{HeadersAgree, GivesDirection, RefusesDirection, header_words};
+ghost use Rattle.mps_reader.specs.Openings.{HeadersAgree, direction_of, GivesDirection, RefusesDirection, header_words};
 
 use crate::MpsKind;
 use crate::fault::Fault;
@@ -177,7 +177,7 @@ impl Headers {
 
     /// The direction that the text gives, Min where it gives none.
     pub(crate) fn direction(&self) -> Direction
-        ensures { (earlier : List Line) → HeadersAgree self.now earlier → result ≡ (if list_any is_maximum (direction_words earlier) then Direction.Max else Direction.Min) }
+        ensures { (words : List (List ℕ)) → self.now.direction ≡ direction_of words → result ≡ (if list_any is_maximum words then Direction.Max else Direction.Min) }
     {
         self.direction.unwrap_or(Direction::Min)
     }

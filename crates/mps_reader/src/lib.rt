@@ -6,12 +6,13 @@
 //! model or is the first one that offends, and then its first offence is told.
 #![tactic(auto)]
 
-ghost use Rattle.std.specs.Prelude.{◌≡◌, ◌≤◌, ◌+◌, ℕ, List, length};
+ghost use Rattle.std.specs.Prelude.{◌≡◌, ◌≤◌, ◌+◌, ℕ, List, length, IfOk};
 ghost use Rattle.mps_reader.specs.MpsLines.{Line, column_names};
-ghost use Rattle.mps_reader.specs.MpsModels.{model_of, end_kind};
+ghost use Rattle.mps_reader.specs.MpsModels.{model_of, model_of_lines, end_kind};
 ghost use Rattle.mps_reader.specs.Tables.{texts_of};
 ghost use Rattle.mps_reader.specs.ColumnStates.{ColumnsAgree};
 ghost use Rattle.mps_reader.specs.Endings.{IsRefusedWith};
+ghost use Rattle.mps_reader.specs.Drafts.{HasParts};
 ghost use Rattle.mps_reader.specs.declared.MpsKind.{MpsKind};
 ghost use Rattle.mps_reader.specs.MpsLines as lines;
 ghost use Rattle.mps_reader.specs.declared.MpsError.TheVariants as refused;
@@ -92,6 +93,7 @@ pub const MAX_BYTES: usize = 16_777_216;
 /// The model of a text of at most 16,777,216 bytes, or the first line that offends.
 pub fn read_model(alloc: Global, bytes: &[u8]) -> Result<Model, MpsError>
     requires { length bytes.now ≤ 16777216 }
+    ensures accepted { IfOk result (λ m. model_of bytes.now ≡ Ok m) }
     ensures refused { (refusal : ℕ × MpsKind) → model_of bytes.now ≡ Err refusal → IsRefusedWith refusal result }
 {
     let mut draft = Draft::new(alloc);
@@ -117,6 +119,7 @@ pub fn read_model(alloc: Global, bytes: &[u8]) -> Result<Model, MpsError>
 
 // The model of a draft, whose text ended at this line.
 fn model_at(alloc: Global, draft: Draft, line: u32) -> Result<Model, MpsError>
+    ensures ok { IfOk result (λ m. (ls : List Line) → HasParts draft.entry ls → m ≡ model_of_lines ls) }
     ensures ended { (ls : List Line) (kind : MpsKind) → ColumnsAgree (texts_of draft.entry.columns.table.names.keys) draft.entry.columns.table.items.items ls → texts_of draft.entry.columns.table.names.keys ≡ column_names ls → end_kind ls (column_names ls) ≡ Some kind → IsRefusedWith (line, kind) result }
 {
     match draft.into_model(alloc) {

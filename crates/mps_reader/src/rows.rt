@@ -1,12 +1,13 @@
 // The section ROWS: the objective, and the rows with a sense.
-ghost use Rattle.std.specs.Prelude.{◌≡◌, ◌<◌, ◌≤◌, ◌+◌, ◌∷◌, ◌++◌, ◌&&◌, ◌||◌, [], List, All, length, unsigned_abs, IfOk, IfErr, OnOk, true, false, is_some, is_none, nat_le, neg_ℤ, pos, unwrap_or, map, codes, if◌then◌else◌};
-ghost use Rattle.mps_reader.specs.MpsLines.{Line, is_one_of};
+ghost use Rattle.std.specs.Prelude.{◌≡◌, ◌<◌, ◌≤◌, ◌+◌, ◌∷◌, ◌++◌, ◌&&◌, ◌||◌, [], List, All, length, unsigned_abs, IfOk, IfErr, OnOk, true, false, is_some, is_none, nat_le, neg_ℤ, pos, unwrap_or, map, filter_map, codes, if◌then◌else◌};
+ghost use Rattle.mps_reader.specs.MpsLines.{Line, is_one_of, last_of};
 ghost use Rattle.mps_reader.specs.MpsRules.{row_kind};
 ghost use Rattle.mps_reader.specs.Faults.{IsFault};
 ghost use Rattle.mps_reader.specs.TakenLines.{IsDataWith};
 ghost use Rattle.mps_reader.specs.RowTables.{sense_words, sense_after, role_with, RowsReady};
 ghost use Rattle.mps_reader.specs.Tables.{texts_of};
 ghost use Rattle.mps_reader.specs.BegunRows.{IsRowPushed};
+ghost use Rattle.mps_reader.specs.MadeRows.{row_made, constant_made, costs_made};
 ghost use Rattle.std.specs.Option.{ForSome};
 
 use crate::MpsKind;
@@ -15,6 +16,16 @@ use crate::named::Named;
 use crate::row_draft::{RowDraft, RowRole};
 use int_model::{Row, RowSense, Terms};
 use std::alloc::{AllocError, Global};
+
+/// What the rows of a text make.
+#[derive(Drop)]
+pub(crate) struct RowParts {
+    pub(crate) constant: i64,
+    /// The objective's numbers that are not 0, by columns, which rise.
+    pub(crate) costs: Vec<(u32, i64)>,
+    /// The rows with a sense.
+    pub(crate) rows: Vec<Row>,
+}
 
 #[derive(Drop)]
 pub(crate) struct Rows<'a> {
@@ -117,18 +128,26 @@ impl<'a> Rows<'a> {
         }
     }
 
-    /// The constant of the objective, and the rows with a sense.
-    pub(crate) fn into_rows(self, alloc: Global) -> Result<(i64, Vec<Row>), AllocError> {
+    /// What the rows of the text make.
+    pub(crate) fn into_parts(self, alloc: Global) -> Result<RowParts, AllocError>
+        ensures rows { IfOk result (λ parts. parts.rows.items ≡ filter_map row_made self.entry.table.items.items) }
+        ensures constant { IfOk result (λ parts. parts.constant ≡ unwrap_or (last_of (filter_map constant_made self.entry.table.items.items)) (pos 0)) }
+        ensures costs { IfOk result (λ parts. parts.costs.items ≡ unwrap_or (last_of (filter_map costs_made self.entry.table.items.items)) []) }
+    {
         let Rows {
             table,
             kept: _,
             has_objective: _,
         } = self;
         let mut constant = 0;
+        let mut costs = Vec::new(alloc);
         let mut rows = Vec::new(alloc);
         for draft in table.into_items() {
             match draft.role {
-                RowRole::Objective => constant = constant_of(draft.rhs),
+                RowRole::Objective => {
+                    constant = constant_of(draft.rhs);
+                    costs = draft.terms;
+                }
                 RowRole::Dropped => {}
                 RowRole::Kept(sense) => rows.push(Row {
                     name: draft.name,
@@ -139,6 +158,10 @@ impl<'a> Rows<'a> {
                 })?,
             }
         }
-        Ok((constant, rows))
+        Ok(RowParts {
+            constant,
+            costs,
+            rows,
+        })
     }
 }
