@@ -53,20 +53,20 @@ tells_since s message old mid new r w f (inr (inl failed)) = inr (inl (failed.0,
 tells_since s message old mid new r w f (inr (inr lost)) = inr (inr (lost.0, lost.1 ∙ w))
 
 -- a text that was fetched is refused
-pub stops_refused : (input : Input) (IsWhy : List ℕ → Type 0) (names : List (List ℕ)) (old mid new : View) (message : List ℕ) (r : Status) → Fetches names old mid → Stays old mid → OnlyWarns mid new → IsWhy message → Tells (refused input) message mid new r → Stops input IsWhy names old new r
-stops_refused input IsWhy names old mid new message r f s w why t =
+pub stops_refused : (input : Input) (file : Option (List ℕ)) (IsWhy : List ℕ → Type 0) (names : List (List ℕ)) (old mid new : View) (message : List ℕ) (r : Status) → Fetches names old mid → Stays old mid → OnlyWarns mid new → IsWhy message → Tells (refused input) message mid new r → Stops input file IsWhy names old new r
+stops_refused input file IsWhy names old mid new message r f s w why t =
     inl (names_kept old mid new names f.asked w.fetched, inl (message, why, tells_since (refused input) message old mid new r f.warned s.write_faults t))
 
 -- memory was wanting once these names were asked for
-pub stops_lacking : (input : Input) (IsWhy : List ℕ → Type 0) (names : List (List ℕ)) (old mid new : View) (r : Status) → Fetches names old mid → OnlyWarns mid new → Lacks mid new r → Stops input IsWhy names old new r
-stops_lacking input IsWhy names old mid new r f w l =
+pub stops_lacking : (input : Input) (file : Option (List ℕ)) (IsWhy : List ℕ → Type 0) (names : List (List ℕ)) (old mid new : View) (r : Status) → Fetches names old mid → OnlyWarns mid new → Lacks mid new r → Stops input file IsWhy names old new r
+stops_lacking input file IsWhy names old mid new r f w l =
     inr (record { status = l.status; warned = front_since old.warned mid.warned new.warned out_of_memory f.warned l.warned }, (length names, names_kept old mid new (take (length names) names) (rw (take_all (length names) names (omega arith)) f.asked) w.fetched))
 
 -- another reason of the same message
-pub stops_more : (input : Input) (P Q : List ℕ → Type 0) (names : List (List ℕ)) (old new : View) (r : Status) → ((message : List ℕ) → P message → Q message) → Stops input P names old new r → Stops input Q names old new r
-stops_more input P Q names old new r h (inl (asked, inl (message, why, tells))) = inl (asked, inl (message, h message why, tells))
-stops_more input P Q names old new r h (inl (asked, inr misses)) = inl (asked, inr misses)
-stops_more input P Q names old new r h (inr lacks) = inr lacks
+pub stops_more : (input : Input) (file : Option (List ℕ)) (P Q : List ℕ → Type 0) (names : List (List ℕ)) (old new : View) (r : Status) → ((message : List ℕ) → P message → Q message) → Stops input file P names old new r → Stops input file Q names old new r
+stops_more input file P Q names old new r h (inl (asked, inl (message, why, tells))) = inl (asked, inl (message, h message why, tells))
+stops_more input file P Q names old new r h (inl (asked, inr misses)) = inl (asked, inr misses)
+stops_more input file P Q names old new r h (inr lacks) = inr lacks
 
 taken_after : (names more : List (List ℕ)) (n : ℕ) → take (length names + n) (names ++ more) ≡ names ++ take n more
 taken_after [] more n =
@@ -77,12 +77,12 @@ taken_after (name ∷ names) more n =
     ap (λ k. take k (name ∷ (names ++ more))) one ∙ ap (λ l. name ∷ l) (taken_after names more n)
 
 -- a stop behind names that were asked for before
-pub stops_after : (input : Input) (IsWhy : List ℕ → Type 0) (names more : List (List ℕ)) (old mid new : View) (r : Status) → Fetches names old mid → Stays old mid → Stops input IsWhy more mid new r → Stops input IsWhy (names ++ more) old new r
-stops_after input IsWhy names more old mid new r f s (inl (asked, inl (message, why, tells))) =
+pub stops_after : (input : Input) (file : Option (List ℕ)) (IsWhy : List ℕ → Type 0) (names more : List (List ℕ)) (old mid new : View) (r : Status) → Fetches names old mid → Stays old mid → Stops input file IsWhy more mid new r → Stops input file IsWhy (names ++ more) old new r
+stops_after input file IsWhy names more old mid new r f s (inl (asked, inl (message, why, tells))) =
     inl (names_after old mid new names more f.asked asked, inl (message, why, tells_since (refused input) message old mid new r f.warned s.write_faults tells))
-stops_after input IsWhy names more old mid new r f s (inl (asked, inr misses)) =
-    inl (names_after old mid new names more f.asked asked, inr (record { status = misses.status; rose = rose_since old.fetch_faults mid.fetch_faults new.fetch_faults s.fetch_faults misses.rose; warned = front_since old.warned mid.warned new.warned (unreadable input) f.warned misses.warned }))
-stops_after input IsWhy names more old mid new r f s (inr (lacks, (n, asked))) =
+stops_after input file IsWhy names more old mid new r f s (inl (asked, inr misses)) =
+    inl (names_after old mid new names more f.asked asked, inr (record { named = misses.named; status = misses.status; rose = rose_since old.fetch_faults mid.fetch_faults new.fetch_faults s.fetch_faults misses.rose; warned = front_since old.warned mid.warned new.warned (unreadable input) f.warned misses.warned }))
+stops_after input file IsWhy names more old mid new r f s (inr (lacks, (n, asked))) =
     inr (record { status = lacks.status; warned = front_since old.warned mid.warned new.warned out_of_memory f.warned lacks.warned }, (length names + n, rw (taken_after names more n) (names_after old mid new names (take n more) f.asked asked)))
 
 pub fetches_after : (names more : List (List ℕ)) (old mid new : View) → Fetches names old mid → Fetches more mid new → Fetches (names ++ more) old new
@@ -100,19 +100,19 @@ pub warns_stays : (old new : View) → OnlyWarns old new → Stays old new
 warns_stays old new w = record { files = w.files; printed = w.printed; fetch_faults = omega (arith, w.fetch_faults); write_faults = w.write_faults }
 
 -- a refusal whose message perhaps found no memory
-pub refused_by : (input : Input) (IsWhy : List ℕ → Type 0) (names : List (List ℕ)) (old mid new : View) (message : Result (Vec ℕ Global) AllocError) (text : List ℕ) (r : Status) → Fetches names old mid → Stays old mid → OnlyWarns mid new → IsWhy text → IfOk message (λ m. m.items ≡ text) → MatchResult message (λ m. Tells (refused input) m.items mid new r) (λ _. Lacks mid new r) → Stops input IsWhy names old new r
-refused_by input IsWhy names old mid new (Ok m) text r f s w why is tells = stops_refused input IsWhy names old mid new text r f s w why (subst (λ (t : List ℕ). Tells (refused input) t mid new r) is tells)
-refused_by input IsWhy names old mid new (Err e) text r f s w why is lacks = stops_lacking input IsWhy names old mid new r f w lacks
+pub refused_by : (input : Input) (file : Option (List ℕ)) (IsWhy : List ℕ → Type 0) (names : List (List ℕ)) (old mid new : View) (message : Result (Vec ℕ Global) AllocError) (text : List ℕ) (r : Status) → Fetches names old mid → Stays old mid → OnlyWarns mid new → IsWhy text → IfOk message (λ m. m.items ≡ text) → MatchResult message (λ m. Tells (refused input) m.items mid new r) (λ _. Lacks mid new r) → Stops input file IsWhy names old new r
+refused_by input file IsWhy names old mid new (Ok m) text r f s w why is tells = stops_refused input file IsWhy names old mid new text r f s w why (subst (λ (t : List ℕ). Tells (refused input) t mid new r) is tells)
+refused_by input file IsWhy names old mid new (Err e) text r f s w why is lacks = stops_lacking input file IsWhy names old mid new r f w lacks
 
 -- ---- changes
 
-pub named_changes : (files : Option Files) (name : Option (List ℕ)) (n : List ℕ) (m : IntegerModel) (old new : View) (r : Status) → name ≡ Some n → Stops Changes (IsChangesRefusal files (Some n) m) (n ∷ []) old new r → Stops Changes (IsChangesRefusal files name m) (names_of name) old new r
-named_changes files name n m old new r e s = subst (λ (o : Option (List ℕ)). Stops Changes (IsChangesRefusal files o m) (names_of o) old new r) (sym e) s
+pub named_changes : (files : Option Files) (name : Option (List ℕ)) (n : List ℕ) (m : IntegerModel) (old new : View) (r : Status) → name ≡ Some n → Stops Changes (Some n) (IsChangesRefusal files (Some n) m) (n ∷ []) old new r → Stops Changes name (IsChangesRefusal files name m) (names_of name) old new r
+named_changes files name n m old new r e s = subst (λ (o : Option (List ℕ)). Stops Changes o (IsChangesRefusal files o m) (names_of o) old new r) (sym e) s
 
 -- the changes of a command stopped it, behind a model that was read
-pub stops_at_changes : (inputs : Inputs) (m : IntegerModel) (old mid new : View) (r : Status) → HasModel old.files inputs.model m → Fetches (inputs.model ∷ []) old mid → Stays old mid → Stops Changes (IsChangesRefusal mid.files inputs.changes m) (names_of inputs.changes) mid new r → StopsAtInput inputs old new r
+pub stops_at_changes : (inputs : Inputs) (m : IntegerModel) (old mid new : View) (r : Status) → HasModel old.files inputs.model m → Fetches (inputs.model ∷ []) old mid → Stays old mid → Stops Changes inputs.changes (IsChangesRefusal mid.files inputs.changes m) (names_of inputs.changes) mid new r → StopsAtInput inputs old new r
 stops_at_changes inputs m old mid new r has f s stop =
-    (Changes, stops_more Changes (IsChangesRefusal mid.files inputs.changes m) (IsRefusal old.files inputs Changes) (names_to inputs Changes) old new r (λ message why. (m, has, subst (λ (files : Option Files). IsChangesRefusal files inputs.changes m message) s.files why)) (stops_after Changes (IsChangesRefusal mid.files inputs.changes m) (inputs.model ∷ []) (names_of inputs.changes) old mid new r f s stop))
+    (Changes, stops_more Changes inputs.changes (IsChangesRefusal mid.files inputs.changes m) (IsRefusal old.files inputs Changes) (names_to inputs Changes) old new r (λ message why. (m, has, subst (λ (files : Option Files). IsChangesRefusal files inputs.changes m message) s.files why)) (stops_after Changes inputs.changes (IsChangesRefusal mid.files inputs.changes m) (inputs.model ∷ []) (names_of inputs.changes) old mid new r f s stop))
 
 -- the problem of a model and changes that were read
 pub posed : (inputs : Inputs) (m : IntegerModel) (scenarios : List Change) (p : Scenarios) (old mid new : View) → HasModel old.files inputs.model m → Fetches (inputs.model ∷ []) old mid → Stays old mid → HasChanges mid.files inputs.changes m scenarios → Fetches (names_of inputs.changes) mid new → p ≡ record { model = m; changes = scenarios } → HasProblem old.files inputs p × Fetches (names_to inputs Changes) old new
@@ -123,7 +123,7 @@ posed inputs m scenarios p old mid new has f s changes g is =
 -- memory was wanting once both texts were read
 pub lacks_problem : (inputs : Inputs) (old mid next new : View) (r : Status) → Fetches (inputs.model ∷ []) old mid → Fetches (names_of inputs.changes) mid next → OnlyWarns next new → Lacks next new r → StopsAtInput inputs old new r
 lacks_problem inputs old mid next new r f g w l =
-    (Changes, stops_lacking Changes (IsRefusal old.files inputs Changes) (names_to inputs Changes) old next new r (fetches_after (inputs.model ∷ []) (names_of inputs.changes) old mid next f g) w l)
+    (Changes, stops_lacking Changes inputs.changes (IsRefusal old.files inputs Changes) (names_to inputs Changes) old next new r (fetches_after (inputs.model ∷ []) (names_of inputs.changes) old mid next f g) w l)
 
 -- what an error of this status means
 pub err_as : {T : Type 0} (r : Result T Status) (s : Status) (P : Status → Type 0) → IsErrAnd r (λ t. t ≡ s) → P s → IfErr r P

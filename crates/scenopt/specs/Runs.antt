@@ -1,8 +1,9 @@
 -- What a run of the program does to its desk, by its status.
-use Rattle.std.specs.Prelude.{◌≡◌, ◌⊎◌, ℕ, ◌<◌, ◌≤◌, List, [], ◌∷◌, ◌++◌, length, take, Option, Some, None, IfSome, option_map, Ok, Err}
+use Rattle.std.specs.Prelude.{◌≡◌, ◌⊎◌, ℕ, ◌<◌, ◌≤◌, List, [], ◌∷◌, ◌++◌, length, take, Option, Some, None, IfSome, IsSome, option_map, Ok, Err}
 use Rattle.desk.specs.Causes.{Rose}
 use Rattle.desk.specs.Desk.{View, Files, bytes_of}
 use Rattle.int_model.specs.Models.{IntegerModel}
+use Rattle.mps_reader.specs.MpsModels.{Refusal, model_of}
 use Rattle.mps_reader.specs.declared.MpsKind.{MpsKind}
 use Rattle.scenario_changes.specs.Changes.{Change, ChangeSet}
 use Rattle.scenario_changes.specs.Problems.{Scenarios, problem}
@@ -63,10 +64,11 @@ abbrev pub HasChanges : Option Files → Option (List ℕ) → IntegerModel → 
 HasChanges files None m scenarios = scenarios ≡ []
 HasChanges files (Some name) m scenarios = (bytes : List ℕ) × HasBytes files name bytes × ((set : ChangeSet) × (changes_of m bytes ≡ Ok set) × (scenarios ≡ set.scenarios))
 
--- a model from the text of a file
+-- the model of the text in a file
 pub record HasModel (files : Option Files) (name : List ℕ) (m : IntegerModel) : Type 0 where
   pub bytes : List ℕ
   pub has : HasBytes files name bytes
+  pub is : model_of bytes ≡ Ok m
 
 -- the problem of a command's files
 pub record HasProblem (files : Option Files) (inputs : Inputs) (p : Scenarios) : Type 0 where
@@ -81,11 +83,15 @@ pub record IsAnswered (p : Scenarios) (text : List ℕ) : Type 0 where
 
 -- ---- how a run ends
 
+-- where a model's text is refused, it is at this line and for this kind
+abbrev pub IsRefusedAt : List ℕ → ℕ → MpsKind → Type 0
+IsRefusedAt bytes line kind = (refusal : Refusal) → model_of bytes ≡ Err refusal → (line ≡ refusal.0) × (kind ≡ refusal.1)
+
 -- why a model is refused, as a message
 abbrev pub IsModelRefusal : Option Files → List ℕ → List ℕ → Type 0
 IsModelRefusal files name message =
     (IsTooLong files name × (message ≡ too_long Model))
-    ⊎ ((bytes : List ℕ) × HasBytes files name bytes × ((line : ℕ) × (kind : MpsKind) × (message ≡ model_line line kind)))
+    ⊎ ((bytes : List ℕ) × HasBytes files name bytes × ((line : ℕ) × (kind : MpsKind) × IsRefusedAt bytes line kind × (message ≡ model_line line kind)))
 
 -- why a file of changes to a model is refused, as a message
 abbrev pub IsChangesRefusal : Option Files → Option (List ℕ) → IntegerModel → List ℕ → Type 0
@@ -98,6 +104,11 @@ IsChangesRefusal files (Some name) m message =
 abbrev pub IsRefusal : Option Files → Inputs → Input → List ℕ → Type 0
 IsRefusal files inputs Model message = IsModelRefusal files inputs.model message
 IsRefusal files inputs Changes message = (m : IntegerModel) × HasModel files inputs.model m × IsChangesRefusal files inputs.changes m message
+
+-- the file of a text
+abbrev pub file_of : Inputs → Input → Option (List ℕ)
+file_of inputs Model = Some inputs.model
+file_of inputs Changes = inputs.changes
 
 -- the names that are asked for up to a text
 abbrev pub names_of : Option (List ℕ) → List (List ℕ)
@@ -119,8 +130,9 @@ Tells s message old new result =
 abbrev pub Refuses : Input → (List ℕ → Type 0) → View → View → Status → Type 0
 Refuses input IsWhy old new result = (message : List ℕ) × IsWhy message × Tells (refused input) message old new result
 
--- a file couldn't be read
-pub record Misses (input : Input) (old new : View) (result : Status) : Type 0 where
+-- a file couldn't be read, where there is one
+pub record Misses (input : Input) (file : Option (List ℕ)) (old new : View) (result : Status) : Type 0 where
+  pub named : IsSome file
   pub status : result ≡ status.ReadFault
   pub rose : Rose old.fetch_faults new.fetch_faults
   pub warned : AddsFront old.warned new.warned (unreadable input)
@@ -130,11 +142,11 @@ pub record Lacks (old new : View) (result : Status) : Type 0 where
   pub status : result ≡ status.Memory
   pub warned : AddsFront old.warned new.warned out_of_memory
 
--- A run stopped at a text, behind these names: it was refused or couldn't be read, or before all of them were asked
--- for, or behind them, memory was wanting.
-abbrev pub Stops : Input → (List ℕ → Type 0) → List (List ℕ) → View → View → Status → Type 0
-Stops input IsWhy names old new result =
-    (AddsNames old new names × (Refuses input IsWhy old new result ⊎ Misses input old new result))
+-- A run stopped at the text of a file, behind these names: it was refused or couldn't be read, or before all of them
+-- were asked for, or behind them, memory was wanting.
+abbrev pub Stops : Input → Option (List ℕ) → (List ℕ → Type 0) → List (List ℕ) → View → View → Status → Type 0
+Stops input file IsWhy names old new result =
+    (AddsNames old new names × (Refuses input IsWhy old new result ⊎ Misses input file old new result))
     ⊎ (Lacks old new result × ((n : ℕ) × AddsNames old new (take n names)))
 
 -- the report was printed, or there was a fault at that or want of memory
@@ -149,7 +161,7 @@ Reports p old new status.ReadFault = ⊥
 
 -- a run stopped at one of a command's texts
 abbrev pub StopsAtInput : Inputs → View → View → Status → Type 0
-StopsAtInput inputs old new result = (input : Input) × Stops input (IsRefusal old.files inputs input) (names_to inputs input) old new result
+StopsAtInput inputs old new result = (input : Input) × Stops input (file_of inputs input) (IsRefusal old.files inputs input) (names_to inputs input) old new result
 
 -- A `solve` stopped at one of its texts and printed nothing, or it reported on the problem of its files.
 abbrev pub Solves : Inputs → View → View → Status → Type 0

@@ -1,5 +1,5 @@
 // The run of a command over a desk.
-ghost use Rattle.std.specs.Prelude.{◌≡◌, ◌∷◌, [], map, string_bytes, option_map, IfOk, IfErr, MatchResult};
+ghost use Rattle.std.specs.Prelude.{◌≡◌, ◌∷◌, [], map, string_bytes, option_map, Some, IfOk, IfErr, MatchResult};
 ghost use Rattle.scenario_changes.specs.Changes.{Fits};
 ghost use Rattle.scenopt.specs.Messages.{too_long};
 ghost use Rattle.scenopt.specs.Runs.{Runs, Solves, StopsAtInput, Reports, Stops, HasBytes, HasModel, HasChanges, HasProblem, IsAnswered, IsTooLong, IsModelRefusal, IsChangesRefusal, names_of, names_to, Stays, Fetches, Tells, Lacks, AddsFront, OnlyWarns, status_code};
@@ -95,7 +95,7 @@ fn fetched<D: Desk>(
     desk: &mut D,
 ) -> Result<Vec<u8>, Status>
     ensures ok { IfOk result (λ bytes. HasBytes (D.view desk.old).files name.now bytes.items × Fetches (name.now ∷ []) (D.view desk.old) (D.view desk.new)) }
-    ensures err { IfErr result (Stops input (λ message. IsTooLong (D.view desk.old).files name.now × (message ≡ too_long input)) (name.now ∷ []) (D.view desk.old) (D.view desk.new)) }
+    ensures err { IfErr result (Stops input (Some name.now) (λ message. IsTooLong (D.view desk.old).files name.now × (message ≡ too_long input)) (name.now ∷ []) (D.view desk.old) (D.view desk.new)) }
     ensures stays { Stays (D.view desk.old) (D.view desk.new) }
 {
     match desk.fetch(alloc, name, MAX_BYTES) {
@@ -120,7 +120,7 @@ fn refuse<D: Desk>(input: Input, message: Result<Vec<u8>, AllocError>, desk: &mu
 // The model of a file.
 fn model_in<D: Desk>(alloc: Global, name: &str, desk: &mut D) -> Result<Model, Status>
     ensures ok { IfOk result (λ m. HasModel (D.view desk.old).files name.now m × Fetches (name.now ∷ []) (D.view desk.old) (D.view desk.new)) }
-    ensures err { IfErr result (Stops input.Model (IsModelRefusal (D.view desk.old).files name.now) (name.now ∷ []) (D.view desk.old) (D.view desk.new)) }
+    ensures err { IfErr result (Stops input.Model (Some name.now) (IsModelRefusal (D.view desk.old).files name.now) (name.now ∷ []) (D.view desk.old) (D.view desk.new)) }
     ensures stays { Stays (D.view desk.old) (D.view desk.new) }
 {
     let bytes = fetched(alloc, name, Input::Model, desk)?;
@@ -141,7 +141,7 @@ fn changes_in<D: Desk>(
     desk: &mut D,
 ) -> Result<Changes, Status>
     ensures ok { IfOk result (λ c. HasChanges (D.view desk.old).files (option_map (λ n. n.now) name.entry) model.now c.scenarios × Fits c model.now × Fetches (names_of (option_map (λ n. n.now) name.entry)) (D.view desk.old) (D.view desk.new)) }
-    ensures err { IfErr result (Stops input.Changes (IsChangesRefusal (D.view desk.old).files (option_map (λ n. n.now) name.entry) model.now) (names_of (option_map (λ n. n.now) name.entry)) (D.view desk.old) (D.view desk.new)) }
+    ensures err { IfErr result (Stops input.Changes (option_map (λ n. n.now) name.entry) (IsChangesRefusal (D.view desk.old).files (option_map (λ n. n.now) name.entry) model.now) (names_of (option_map (λ n. n.now) name.entry)) (D.view desk.old) (D.view desk.new)) }
     ensures stays { Stays (D.view desk.old) (D.view desk.new) }
 {
     let Some(name) = name else {
