@@ -1,5 +1,5 @@
 -- The engine's box, the trail of its changes, and the steps that it takes.
-use Rattle.std.specs.Prelude.{◌≡◌, ◌≢◌, ℕ, ◌<◌, ◌≤◌, ℤ, ◌≤ℤ◌, Bool, true, false, if◌then◌else◌, List, [], ◌∷◌, ◌++◌, length, take, slice_get, slice_index_or, slice_set, Option, Some, None, Result, Ok, Err, All, vec_capacity}
+use Rattle.std.specs.Prelude.{◌≡◌, ◌≢◌, ℕ, ◌<◌, ◌≤◌, ℤ, ◌≤ℤ◌, Bool, true, false, if◌then◌else◌, List, [], ◌∷◌, ◌++◌, length, replicate, take, slice_get, slice_index_or, slice_set, Option, Some, None, Result, Ok, Err, All, vec_capacity}
 use Rattle.std.specs.declared.alloc.AllocError.{AllocError}
 use Rattle.int_model.specs.Limits.{IsBound}
 use Rattle.int_model.specs.Boxes.{Box, box_of, interval_at, is_empty}
@@ -14,17 +14,18 @@ use Rattle.tighten.specs.Cuts.{interval}
 use Rattle.tighten.specs.Queues.{IsQueue}
 use Rattle.tighten.specs.Replay.{left_of, tightened, tightened_by}
 use Rattle.tighten.specs.Steps.{IsStep, rows_of}
-use Rattle.tighten.specs.Sums.{AreLeast, AreGreatest}
+use Rattle.tighten.specs.Sums.{AreLeast, AreGreatest, AreWidest}
 
 abbrev pub box_in : Engine → Box
 box_in e = box_of e.low.items e.high.items
 
--- an interval for each column of the model, and sums for each row; there is room for 128 steps
+-- an interval for each column of the model, and numbers for each row; there is room for 128 steps
 pub record IsSized (m : IntegerModel) (e : Engine) : Type 0 where
   pub lows : length e.low.items ≡ length m.columns
   pub highs : length e.high.items ≡ length m.columns
   pub least : length e.least.items ≡ length m.rows
   pub most : length e.most.items ≡ length m.rows
+  pub widest : length e.widest.items ≡ length m.rows
   pub queue : IsQueue e.queue
   pub waits : length e.queue.waits.items ≡ length m.rows
   pub few : length e.steps.items ≤ 128
@@ -62,12 +63,14 @@ pub record Follows (before now : Engine) : Type 0 where
 
 -- the box, the trail and the steps are as before
 pub record Stays (before now : Engine) : Type 0 where
+  pub widest : now.widest ≡ before.widest
   pub bounds : box_in now ≡ box_in before
   pub trail : now.trail.items ≡ before.trail.items
   pub steps : now.steps.items ≡ before.steps.items
 
 -- a column has got another interval, and the trail the one before
 pub record Moves (j : ℕ) (low high : ℤ) (before now : Engine) : Type 0 where
+  pub widest : now.widest ≡ before.widest
   pub bounds : box_in now ≡ slice_set (box_in before) j (interval low high)
   pub trail : now.trail.items ≡ before.trail.items ++ record { column = j; low = (interval_at (box_in before) j).low; high = (interval_at (box_in before) j).high } ∷ []
   pub steps : now.steps.items ≡ before.steps.items
@@ -93,6 +96,7 @@ pub record IsKept (step : Step) (before now : Engine) : Type 0 where
   pub highs : now.high ≡ before.high
   pub least : now.least ≡ before.least
   pub most : now.most ≡ before.most
+  pub widest : now.widest ≡ before.widest
   pub queue : now.queue ≡ before.queue
   pub trail : now.trail ≡ before.trail
   pub steps : now.steps.items ≡ take 128 (before.steps.items ++ step ∷ [])
@@ -106,6 +110,7 @@ pub record Tightens (m : IntegerModel) (ends : List Ends) (before : Engine) (is_
   pub narrows : EachNarrows (rows_of m) ends taken (box_in before)
   pub leads : tightened_by (rows_of m) ends taken (box_in before) ≡ (if is_occupied then Some (box_in now) else None)
   pub kept : now.steps.items ≡ take 128 (before.steps.items ++ taken)
+  pub widest : now.widest ≡ before.widest
   pub follows : Follows before now
   pub count : length follows.added ≤ length taken
 
@@ -133,10 +138,12 @@ IsStill P before (Ok true) now = length now.trail.items ≡ length before.trail.
 IsStill P before (Ok false) now = Unit {0}
 IsStill P before (Err _) now = Unit {0}
 
--- all rows are queued, the first one first
+-- all rows are queued, the first one first, and it is known how far one term moves the sum of each at most
 pub record IsFresh (m : IntegerModel) (e : Engine) : Type 0 where
+  pub widest : AreWidest (rows_of m) (box_in e) e.widest.items
   pub count : length e.queue.rows.items ≡ length m.rows
   pub order : (k : ℕ) → k < length m.rows → slice_index_or e.queue.rows.items k 0 ≡ k
+  pub marks : e.queue.waits.items ≡ replicate (length m.rows) true
 
 -- every step leaves the box as it is
 abbrev pub IsSettled : IntegerModel → List Ends → Box → Type 0

@@ -1,11 +1,14 @@
 // The engine of bound tightening: a box whose rows' sums are kept while its intervals change.
-ghost use Rattle.std.specs.Prelude.{◌≡◌, ◌<◌, ◌≤◌, ◌-ℤ◌, ◌*ℤ◌, ◌≤ℤ◌, pos, unsigned_abs, [], ◌++◌, ◌∷◌, drop, take, length, slice_index_or, slice_set, IfOk, false, vec_capacity};
+ghost use Rattle.std.specs.Prelude.{◌≡◌, ◌<◌, ◌≤◌, ◌-ℤ◌, ◌*ℤ◌, ◌≤ℤ◌, pos, unsigned_abs, [], ◌++◌, ◌∷◌, drop, take, length, slice_index_or, slice_set, IfOk, OnOk, false, vec_capacity};
 ghost use Rattle.int_model.specs.Boxes.{interval_at, is_empty};
+ghost use Rattle.int_model.specs.ByColumn.{column_terms};
 ghost use Rattle.int_model.specs.Limits.{IsBound, IsEntry};
 ghost use Rattle.int_model.specs.RowSums as row_sums;
 ghost use Rattle.tighten.specs.Cuts.{IsCut, IsSlack, interval, no_ends};
+ghost use Rattle.tighten.specs.Queues.{AllWait, IsIdle, StillWait};
 ghost use Rattle.tighten.specs.Replay.{left_of};
 ghost use Rattle.tighten.specs.Steps.{AreEnds, IsStep, rows_of};
+ghost use Rattle.tighten.specs.Sums.{AreWidest};
 ghost use Rattle.tighten.specs.Engines.{IsSized, IsLoaded, IsSet, IsTightened, IsKept, IsStill, IsFresh, IsAtRest, Leaves, ColumnStays, RowStays, Follows, box_in, restored};
 ghost use Rattle.tighten.specs.declared.engine.Engine.{Engine};
 
@@ -35,6 +38,8 @@ pub struct Engine {
     high: Vec<i32>,
     least: Vec<i64>,
     most: Vec<i64>,
+    // How far one term moves the sum of each row at most, over the box that was taken.
+    widest: Vec<i64>,
     queue: RowQueue,
     trail: Vec<Change>,
     steps: Vec<Step>,
@@ -43,7 +48,9 @@ pub struct Engine {
 impl Engine {
     /// An engine for a model's columns and rows, which takes its box by `load`.
     pub fn new(alloc: Global, model: &Model) -> Result<Engine, AllocError>
-        ensures { IfOk result (λ e. IsSized model.now e) }
+        ensures sized { IfOk result (λ e. IsSized model.now e) }
+        ensures steps { IfOk result (λ e. e.steps.items ≡ []) }
+        ensures trail { IfOk result (λ e. e.trail.items ≡ []) }
     {
         let columns = model.columns() as usize;
         let rows = model.rows() as usize;
@@ -52,6 +59,7 @@ impl Engine {
             high: vec![in alloc; 0; columns]?,
             least: vec![in alloc; 0; rows]?,
             most: vec![in alloc; 0; rows]?,
+            widest: vec![in alloc; 0; rows]?,
             queue: RowQueue::new(alloc, rows)?,
             trail: Vec::new(alloc),
             steps: Vec::with_capacity(alloc, MOST_STEPS)?,
@@ -72,7 +80,13 @@ impl Engine {
         let _columns = model.columns();
         self.low.copy_from_slice(bounds.lows());
         self.high.copy_from_slice(bounds.highs());
-        sums::take(model, bounds, &mut self.least, &mut self.most);
+        sums::take(
+            model,
+            bounds,
+            &mut self.least,
+            &mut self.most,
+            &mut self.widest,
+        );
         self.queue.fill();
         self.trail.clear();
         self.steps.clear();
@@ -116,6 +130,8 @@ impl Engine {
         requires occupied { low ≤ℤ high }
         ensures loaded { IsLoaded model.now self.new }
         ensures set { IsSet column low high self.old result self.new }
+        ensures queued { OnOk result (AllWait (column_terms column 0 (rows_of model.now)) self.new.queue) }
+        ensures kept { StillWait self.old.queue self.new.queue }
     {
         let _columns = model.columns();
         self.queue.add_rows(model.column_terms(column))?;
@@ -139,6 +155,8 @@ impl Engine {
         requires occupied { low ≤ℤ high }
         ensures loaded { IsLoaded model.now self.new }
         ensures bounds { box_in self.new ≡ slice_set (box_in self.old) column (interval low high) }
+        ensures widest { self.new.widest ≡ self.old.widest }
+        ensures queue { self.new.queue ≡ self.old.queue }
         ensures trail { self.new.trail ≡ self.old.trail }
         ensures steps { self.new.steps ≡ self.old.steps }
     {
@@ -166,6 +184,7 @@ impl Engine {
         ensures bounds { box_in self.new ≡ restored (drop mark self.old.trail.items) (box_in self.old) }
         ensures trail { self.new.trail.items ≡ take mark self.old.trail.items }
         ensures steps { self.new.steps.items ≡ self.old.steps.items }
+        ensures idle { IsIdle self.new.queue }
         ensures back { (before : Engine) → length before.trail.items ≡ mark → Follows before self.old → box_in self.new ≡ box_in before }
     {
         'changes: while self.trail.len() > mark {
@@ -218,10 +237,13 @@ impl Engine {
         requires row { row < length model.now.rows }
         ensures loaded { IsLoaded model.now self.new }
         ensures steps { IsTightened model.now ends.now self.old result self.new }
-        ensures still { length self.old.trail.items < changes → IsStill (RowStays (rows_of model.now) ends.now row (box_in self.old)) self.old result self.new }
+        ensures still { AreWidest (rows_of model.now) (box_in self.old) self.old.widest.items → length self.old.trail.items < changes → IsStill (RowStays (rows_of model.now) ends.now row (box_in self.old)) self.old result self.new }
     {
         let _columns = model.columns();
         let mut slack = self.slack_of(model, ends, row);
+        if self.widest[row as usize] <= slack {
+            return Ok(true);
+        }
         if self.reach_of(model, row) <= slack {
             return Ok(true);
         }
