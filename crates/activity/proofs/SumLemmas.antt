@@ -1,8 +1,7 @@
 -- Products within the limits, and one term more of a sum.
-use Rattle.std.proofs.Common.{◌⊎◌, inl, inr, ◌*◌, ◌≤ℤ◌, false, subst, below_more, ◌≡◌, ◌∙◌, ap, sym, ℕ, ◌+◌, ◌^◌, ◌<◌, ◌≤◌, ℤ, pos, ◌+ℤ◌, ◌*ℤ◌, unsigned_abs, List, [], ◌∷◌, length, get_or, drop, refl, arith, zero, suc, FitsSigned, w64, to_z, of_z, add-one, drop-cons}
+use Rattle.std.proofs.Common.{◌⊎◌, inl, inr, ◌*◌, ◌≤ℤ◌, false, subst, ◌≡◌, ◌∙◌, ap, sym, ℕ, ◌+◌, ◌^◌, ◌<◌, ◌≤◌, ℤ, pos, ◌+ℤ◌, ◌*ℤ◌, unsigned_abs, List, [], ◌∷◌, length, get_or, drop, refl, arith, zero, suc, FitsSigned, w64, to_z, of_z, add-one, drop-cons}
 use Rattle.std.proofs.Math.Nat.{mul-le-mul}
 use Rattle.std.proofs.Math.ListN.{drop_of_length-le}
-use Rattle.std.proofs.lemmas.List.{get_or_default}
 use Rattle.std.proofs.lemmas.Int.{ints, clamps, unsigned_abs-mul, fits_signed_from_abs, to_z-of_z}
 use Rattle.int_model.specs.Limits.{IsBound, IsEntry}
 use Rattle.int_model.specs.Boxes.{Box, Interval, BoundsWithin, box_of, interval_at, is_empty}
@@ -12,7 +11,7 @@ use Rattle.int_model.specs.RowSums.{least_product, greatest_product, least_sum, 
 use Rattle.int_model.proofs.SideLemmas.{interval-at, sides-within}
 use Rattle.int_model.proofs.BoxLaws.{tells-points, BoundsWithin-at}
 use Rattle.int_model.proofs.RowSumLaws.{IsIn_at}
-use Rattle.activity.specs.Sums.{AreSummed, spread}
+use Rattle.activity.specs.Sums.{AreSummed}
 
 pub product_limit : (a b : ℤ) → IsEntry a → IsBound b → unsigned_abs (a *ℤ b) ≤ 10 ^ 15
 product_limit a b ha hb = rw unsigned_abs-mul (mul-le-mul ha hb)
@@ -94,15 +93,3 @@ pub greatest_sum-limit : (ts : Terms) (lows highs : List ℤ) → AreSummed ts l
 greatest_sum-limit ts lows highs s =
     let w = sides-within lows highs (record { same_length = s.sides; small_lows = s.lows; small_highs = s.highs }) in
     omega (arith, s.few, few_terms 0 _ ts s.row (omega arith), sum_within greatest_product greatest_ends 0 _ ts (box_of lows highs) s.row w)
-
--- one term more, with a number that is at least the one before and the term's own
-pub widest-more : (box : Box) (ts : Terms) (n : ℕ) (e : ℕ × ℤ) (w v : ℤ) → n < length ts → w ≤ℤ v → ((k : ℕ) (d : ℕ × ℤ) → k < n → spread box (get_or ts k d) ≤ℤ w) → spread box (get_or ts n e) ≤ℤ v → (k : ℕ) (d : ℕ × ℤ) → k < n + 1 → spread box (get_or ts k d) ≤ℤ v
-widest-more box ts n e w v inside grown before here k d h =
-    below_more (λ (i : ℕ). spread box (get_or ts i d) ≤ℤ v) n
-    (λ i g. omega (arith, ints, before i d g, grown))
-    (subst (λ (t : ℕ × ℤ). spread box t ≤ℤ v) (get_or_default ts n e d inside) here)
-    k h
-
-pub either-within : (r a b : ℤ) (most : ℕ) → (r ≡ a) ⊎ (r ≡ b) → unsigned_abs a ≤ most → unsigned_abs b ≤ most → unsigned_abs r ≤ most
-either-within r a b most (inl e) h k = rw e h
-either-within r a b most (inr e) h k = rw e k

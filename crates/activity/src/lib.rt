@@ -1,11 +1,11 @@
 //! Row activities: the least and the greatest sum of a row over a box.
 #![tactic(auto)]
 
-ghost use Rattle.std.specs.Prelude.{◌≡◌, ◌⊎◌, ◌≤◌, ◌*◌, ◌^◌, ◌*ℤ◌, ◌≤ℤ◌, unsigned_abs, false};
+ghost use Rattle.std.specs.Prelude.{◌≡◌, ◌≤◌, ◌^◌, ◌*ℤ◌, ◌≤ℤ◌, unsigned_abs, false};
 ghost use Rattle.int_model.specs.Limits.{IsBound, IsEntry};
 ghost use Rattle.int_model.specs.Boxes.{box_of, is_empty};
 ghost use Rattle.int_model.specs.RowSums.{least_product, greatest_product, least_sum, greatest_sum};
-ghost use Rattle.activity.specs.Sums.{AreSummed, IsWidest};
+ghost use Rattle.activity.specs.Sums.{AreSummed};
 
 pub mod laws;
 
@@ -89,52 +89,25 @@ fn both_of(coefficient: i64, low: i32, high: i32) -> (i64, i64)
     }
 }
 
-/// What a row's sum reaches over a box.
-#[derive(Clone, Copy, Debug, PartialEq, Eq)]
-pub struct RowReach {
-    /// The least sum.
-    pub least: i64,
-    /// The greatest sum.
-    pub most: i64,
-    /// How far the least and the greatest product of one term lie apart at most, at least 0.
-    pub widest: i64,
-}
-
-/// The least and the greatest sum of a row over the box with these ends, which isn't empty, and how far one
-/// term moves it at most, from one pass over the row's terms.
-pub fn extremes(terms: &[(u32, i64)], low: &[i32], high: &[i32]) -> RowReach
+/// The least and the greatest sum of a row over the box with these ends, which isn't empty, from one
+/// pass over the row's terms.
+pub fn extremes(terms: &[(u32, i64)], low: &[i32], high: &[i32]) -> (i64, i64)
     requires summed { AreSummed terms.now low.now high.now }
     requires occupied { is_empty (box_of low.now high.now) ≡ false }
-    ensures least { result.least ≡ least_sum terms.now (box_of low.now high.now) }
-    ensures most { result.most ≡ greatest_sum terms.now (box_of low.now high.now) }
-    ensures widest { IsWidest terms.now (box_of low.now high.now) result.widest }
-    ensures least_limit { unsigned_abs result.least ≤ 10 ^ 18 }
-    ensures most_limit { unsigned_abs result.most ≤ 10 ^ 18 }
-    ensures widest_limit { unsigned_abs result.widest ≤ 2 * 10 ^ 15 }
+    ensures least { result.0 ≡ least_sum terms.now (box_of low.now high.now) }
+    ensures most { result.1 ≡ greatest_sum terms.now (box_of low.now high.now) }
+    ensures least_limit { unsigned_abs result.0 ≤ 10 ^ 18 }
+    ensures most_limit { unsigned_abs result.1 ≤ 10 ^ 18 }
 {
     let mut least = 0;
     let mut most = 0;
-    let mut widest = 0;
     for &(column, coefficient) in terms {
         let column = column as usize;
         let (low_part, high_part) = both_of(coefficient, low[column], high[column]);
         least += low_part;
         most += high_part;
-        widest = greater(widest, high_part - low_part);
     }
-    RowReach {
-        least,
-        most,
-        widest,
-    }
-}
-
-fn greater(first: i64, second: i64) -> i64
-    ensures least { first ≤ℤ result }
-    ensures most { second ≤ℤ result }
-    ensures either { (result ≡ first) ⊎ (result ≡ second) }
-{
-    if first < second { second } else { first }
+    (least, most)
 }
 
 #[cfg(test)]

@@ -123,7 +123,6 @@ pub record IsMoved (m : IntegerModel) (e now : Engine) (j : ℕ) (low high : ℤ
   pub most : (i : ℕ) → slice_index_or now.most.items i (pos 0) ≡ slice_index_or e.most.items i (pos 0) +ℤ change (high -ℤ (interval_at (box_in e) j).high) (low -ℤ (interval_at (box_in e) j).low) (coefficient i (column_terms j 0 (rows_of m)))
   pub least_count : length now.least.items ≡ length e.least.items
   pub most_count : length now.most.items ≡ length e.most.items
-  pub widest : now.widest ≡ e.widest
   pub queue : now.queue ≡ e.queue
   pub trail : now.trail ≡ e.trail
   pub steps : now.steps ≡ e.steps
@@ -142,7 +141,6 @@ moved-loaded m e now j low high k s h small_low small_high o is =
         highs = ap length is.highs ∙ length-set e.high.items j high ∙ s.sized.highs;
         least = is.least_count ∙ s.sized.least;
         most = is.most_count ∙ s.sized.most;
-        widest = rw is.widest s.sized.widest;
         queue = rw is.queue s.sized.queue;
         waits = rw is.queue s.sized.waits;
         few = rw is.steps s.sized.few;
@@ -157,14 +155,13 @@ moved-loaded m e now j low high k s h small_low small_high o is =
     }
 
 -- another queue and another trail
-pub loaded-with : (m : IntegerModel) (e now : Engine) → IsLoaded m e → now.low ≡ e.low → now.high ≡ e.high → now.least ≡ e.least → now.most ≡ e.most → now.widest ≡ e.widest → IsQueue now.queue → length now.queue.waits.items ≡ length e.queue.waits.items → All (IsChange m) now.trail.items → length now.steps.items ≤ 128 → 128 ≤ vec_capacity now.steps → IsLoaded m now
-loaded-with m e now s el eh ea em ew queue waits trail few room = record {
+pub loaded-with : (m : IntegerModel) (e now : Engine) → IsLoaded m e → now.low ≡ e.low → now.high ≡ e.high → now.least ≡ e.least → now.most ≡ e.most → IsQueue now.queue → length now.queue.waits.items ≡ length e.queue.waits.items → All (IsChange m) now.trail.items → length now.steps.items ≤ 128 → 128 ≤ vec_capacity now.steps → IsLoaded m now
+loaded-with m e now s el eh ea em queue waits trail few room = record {
   sized = record {
     lows = rw el s.sized.lows;
     highs = rw eh s.sized.highs;
     least = rw ea s.sized.least;
     most = rw em s.sized.most;
-    widest = rw ew s.sized.widest;
     queue = queue;
     waits = waits ∙ s.sized.waits;
     few = few;
@@ -224,7 +221,7 @@ inside_box : (m : IntegerModel) (e : Engine) (j : ℕ) → IsLoaded m e → j < 
 inside_box m e j s h = omega (arith, h, s.sized.lows, length-box_of e.low.items e.high.items (s.sized.lows ∙ sym s.sized.highs))
 
 pub tightens-same : (m : IntegerModel) (ends : List Ends) (e : Engine) → IsLoaded m e → Tightens m ends e true e
-tightens-same m ends e s = tightens-none m ends e e s.sized.few (record { widest = refl; bounds = refl; trail = refl; steps = refl })
+tightens-same m ends e s = tightens-none m ends e e s.sized.few (record { bounds = refl; trail = refl; steps = refl })
 
 -- a step that leaves a smaller interval
 pub tightens-less : (m : IntegerModel) (ends : List Ends) (before mid now : Engine) (step : Step) (low high : ℤ) → IsLoaded m before → IsStep m step → IsCut (left_of (rows_of m) ends step (box_in before)) (interval_at (box_in before) step.column) (Less low high) → Moves step.column low high before mid → IsKept step mid now → Tightens m ends before true now
@@ -238,7 +235,6 @@ tightens-less m ends before mid now step low high s h cut moves kept =
       narrows = narrows-one (rows_of m) ends step (box_in before) (less-narrows (box_in before) step.column (left_of (rows_of m) ends step (box_in before)) low high (inside_box m before step.column s h.column) cut.0 cut.1 cut.2);
       leads = then_some (tightened (rows_of m) ends step (box_in before)) ∙ less-left (box_in before) step.column (left_of (rows_of m) ends step (box_in before)) low high cut.0 cut.2 ∙ ap (λ (b : Box). Some b) (sym moved);
       kept = kept.steps ∙ ap (λ (t : List Step). take 128 (t ++ step ∷ [])) moves.steps;
-      widest = kept.widest ∙ moves.widest;
       follows = record {
         added = record { column = step.column; low = (interval_at (box_in before) step.column).low; high = (interval_at (box_in before) step.column).high } ∷ [];
         trail = ap (λ (t : Vec Change Global). t.items) kept.trail ∙ moves.trail;
@@ -257,7 +253,6 @@ tightens-empty m ends before now step h cut kept =
       narrows = narrows-one (rows_of m) ends step (box_in before) (none_narrows (box_in before) (tightened (rows_of m) ends step (box_in before)) none);
       leads = then_some (tightened (rows_of m) ends step (box_in before)) ∙ none;
       kept = kept.steps;
-      widest = kept.widest;
       follows = follows-same before now (kept_box step before now kept) (ap (λ (t : Vec Change Global). t.items) kept.trail);
       count = omega arith;
     }
@@ -278,7 +273,7 @@ shifted-by u u2 v v2 ct ct2 old old2 new new2 eu ev ec eo en h i =
 pub loaded-kept : (m : IntegerModel) (before now : Engine) (step : Step) → IsLoaded m before → IsKept step before now → IsLoaded m now
 loaded-kept m before now step s k =
     let few : length now.steps.items ≤ 128 = omega (arith, ap length k.steps, length-take 128 (before.steps.items ++ step ∷ [])) in
-    loaded-with m before now s k.lows k.highs k.least k.most k.widest (rw k.queue s.sized.queue) (rw k.queue refl) (rw k.trail s.trail) few k.room
+    loaded-with m before now s k.lows k.highs k.least k.most (rw k.queue s.sized.queue) (rw k.queue refl) (rw k.trail s.trail) few k.room
 
 pub loaded-from : (m : IntegerModel) (now : Engine) (box : Box) → IsSized m now → box_in now ≡ box → is_empty box ≡ false → All IsBound now.low.items → All IsBound now.high.items → AreLeast (rows_of m) box now.least.items → AreGreatest (rows_of m) box now.most.items → now.trail.items ≡ [] → IsLoaded m now
 loaded-from m now box sized e o lows highs least most none = record {

@@ -109,7 +109,6 @@ tightens-none m ends before now few s = record {
   narrows = λ k step g. absurd (no_step k step g);
   leads = ap (λ (b : Box). Some b) (sym s.bounds);
   kept = s.steps ∙ take-none before.steps.items 128 few;
-  widest = s.widest;
   follows = follows-same before now s.bounds s.trail;
   count = omega arith;
 }
@@ -124,7 +123,6 @@ tightens-trans m ends first next last is_occupied h k = record {
   narrows = narrows-append (rows_of m) ends h.taken k.taken (box_in first) (box_in next) h.narrows h.leads k.narrows;
   leads = tightened_by-append (rows_of m) ends h.taken k.taken (box_in first) (box_in next) h.leads ∙ k.leads;
   kept = k.kept ∙ ap (λ (s : List Step). take 128 (s ++ k.taken)) h.kept ∙ take-again 128 (first.steps.items ++ h.taken) k.taken ∙ ap (take 128) (append_assoc first.steps.items h.taken k.taken);
-  widest = k.widest ∙ h.widest;
   follows = follows-trans first next last h.follows k.follows;
   count = omega (arith, length-append h.follows.added k.follows.added, length-append h.taken k.taken, h.count, k.count);
 }

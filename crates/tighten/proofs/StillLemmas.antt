@@ -13,7 +13,6 @@ use Rattle.int_model.specs.declared.model.Ends.{Ends}
 use Rattle.int_model.proofs.IntegerLaws.{neg-mul}
 use Rattle.activity.proofs.ProductLemmas.{ends-above, ends-below}
 use Rattle.activity.proofs.SumLemmas.{ordered}
-use Rattle.activity.specs.Sums.{IsWidest}
 use Rattle.tighten.specs.declared.engine.Change.{Change}
 use Rattle.tighten.specs.declared.engine.Engine.{Engine}
 use Rattle.tighten.specs.declared.step.RowEnd.TheVariants.{Lower, Upper}
@@ -129,14 +128,6 @@ redundant-stays n rows ends i box room all o h k j =
     let within = spread-within n (slice_index_or rows i []) j box all o in
     let small : (pos (unsigned_abs (coefficient j (slice_index_or rows i []))) *ℤ ((interval_at box j).high -ℤ (interval_at box j).low)) ≤ℤ room = omega (arith, ints, within, k) in
     column-stays n rows ends i j box (pos (unsigned_abs (coefficient j (slice_index_or rows i []))) *ℤ ((interval_at box j).high -ℤ (interval_at box j).low)) room all o h refl small
-
-pub widest-stays : (n : ℕ) (rows : List Terms) (ends : List Ends) (i : ℕ) (box : Box) (w room : ℤ) → AreTerms 0 n (slice_index_or rows i []) → is_empty box ≡ false → IsSlack (slice_index_or ends i no_ends) (least_sum (slice_index_or rows i []) box) (greatest_sum (slice_index_or rows i []) box) room → IsWidest (slice_index_or rows i []) box w → w ≤ℤ room → RowStays rows ends i box
-widest-stays n rows ends i box w room all o slack widest within =
-    row-stays rows ends i (slice_index_or rows i []) box (0, pos 0) refl (λ k h.
-    let j : ℕ = (slice_index_or (slice_index_or rows i []) k (0, pos 0)).0 in
-    let a : ℤ = (slice_index_or (slice_index_or rows i []) k (0, pos 0)).1 in
-    term-stays n rows ends i (slice_index_or rows i []) k (0, pos 0) box (pos (unsigned_abs a) *ℤ ((interval_at box j).high -ℤ (interval_at box j).low)) room refl all h o slack refl
-    (omega (arith, ints, widest k (0, pos 0) h, product_spread a (interval_at box j) (ordered box j o), within)))
 
 -- ---- all rows
 

@@ -14,18 +14,17 @@ use Rattle.tighten.specs.Cuts.{interval}
 use Rattle.tighten.specs.Queues.{IsQueue}
 use Rattle.tighten.specs.Replay.{left_of, tightened, tightened_by}
 use Rattle.tighten.specs.Steps.{IsStep, rows_of}
-use Rattle.tighten.specs.Sums.{AreLeast, AreGreatest, AreWidest}
+use Rattle.tighten.specs.Sums.{AreLeast, AreGreatest}
 
 abbrev pub box_in : Engine → Box
 box_in e = box_of e.low.items e.high.items
 
--- an interval for each column of the model, and numbers for each row; there is room for 128 steps
+-- an interval for each column of the model, and sums for each row; there is room for 128 steps
 pub record IsSized (m : IntegerModel) (e : Engine) : Type 0 where
   pub lows : length e.low.items ≡ length m.columns
   pub highs : length e.high.items ≡ length m.columns
   pub least : length e.least.items ≡ length m.rows
   pub most : length e.most.items ≡ length m.rows
-  pub widest : length e.widest.items ≡ length m.rows
   pub queue : IsQueue e.queue
   pub waits : length e.queue.waits.items ≡ length m.rows
   pub few : length e.steps.items ≤ 128
@@ -63,14 +62,12 @@ pub record Follows (before now : Engine) : Type 0 where
 
 -- the box, the trail and the steps are as before
 pub record Stays (before now : Engine) : Type 0 where
-  pub widest : now.widest ≡ before.widest
   pub bounds : box_in now ≡ box_in before
   pub trail : now.trail.items ≡ before.trail.items
   pub steps : now.steps.items ≡ before.steps.items
 
 -- a column has got another interval, and the trail the one before
 pub record Moves (j : ℕ) (low high : ℤ) (before now : Engine) : Type 0 where
-  pub widest : now.widest ≡ before.widest
   pub bounds : box_in now ≡ slice_set (box_in before) j (interval low high)
   pub trail : now.trail.items ≡ before.trail.items ++ record { column = j; low = (interval_at (box_in before) j).low; high = (interval_at (box_in before) j).high } ∷ []
   pub steps : now.steps.items ≡ before.steps.items
@@ -96,7 +93,6 @@ pub record IsKept (step : Step) (before now : Engine) : Type 0 where
   pub highs : now.high ≡ before.high
   pub least : now.least ≡ before.least
   pub most : now.most ≡ before.most
-  pub widest : now.widest ≡ before.widest
   pub queue : now.queue ≡ before.queue
   pub trail : now.trail ≡ before.trail
   pub steps : now.steps.items ≡ take 128 (before.steps.items ++ step ∷ [])
@@ -110,7 +106,6 @@ pub record Tightens (m : IntegerModel) (ends : List Ends) (before : Engine) (is_
   pub narrows : EachNarrows (rows_of m) ends taken (box_in before)
   pub leads : tightened_by (rows_of m) ends taken (box_in before) ≡ (if is_occupied then Some (box_in now) else None)
   pub kept : now.steps.items ≡ take 128 (before.steps.items ++ taken)
-  pub widest : now.widest ≡ before.widest
   pub follows : Follows before now
   pub count : length follows.added ≤ length taken
 
@@ -138,9 +133,8 @@ IsStill P before (Ok true) now = length now.trail.items ≡ length before.trail.
 IsStill P before (Ok false) now = Unit {0}
 IsStill P before (Err _) now = Unit {0}
 
--- all rows are queued, the first one first, and it is known how far one term moves the sum of each at most
+-- all rows are queued, the first one first
 pub record IsFresh (m : IntegerModel) (e : Engine) : Type 0 where
-  pub widest : AreWidest (rows_of m) (box_in e) e.widest.items
   pub count : length e.queue.rows.items ≡ length m.rows
   pub order : (k : ℕ) → k < length m.rows → slice_index_or e.queue.rows.items k 0 ≡ k
   pub marks : e.queue.waits.items ≡ replicate (length m.rows) true

@@ -3,7 +3,6 @@ use Rattle.std.specs.Prelude.{◌≡◌, ℕ, ◌^◌, ◌≤◌, ℤ, pos, ◌*
 use Rattle.int_model.specs.Boxes.{Box}
 use Rattle.int_model.specs.Programs.{Terms}
 use Rattle.int_model.specs.RowSums.{least_sum, greatest_sum}
-use Rattle.activity.specs.Sums.{IsWidest}
 
 -- number i is the least sum of row i over the box. Past the end a row has no terms, and its sum is 0
 abbrev pub AreLeast : List Terms → Box → List ℤ → Type 0
@@ -12,10 +11,6 @@ AreLeast rows box sums = (i : ℕ) → slice_index_or sums i (pos 0) ≡ least_s
 -- the same with greatest sums
 abbrev pub AreGreatest : List Terms → Box → List ℤ → Type 0
 AreGreatest rows box sums = (i : ℕ) → slice_index_or sums i (pos 0) ≡ greatest_sum (slice_index_or rows i []) box
-
--- number i is one that no term of row i moves the row's sum by more than
-abbrev pub AreWidest : List Terms → Box → List ℤ → Type 0
-AreWidest rows box widest = (i : ℕ) → IsWidest (slice_index_or rows i []) box (slice_index_or widest i (pos 0))
 
 abbrev pub AreSmall : List ℤ → Type 0
 AreSmall sums = (i : ℕ) → unsigned_abs (slice_index_or sums i (pos 0)) ≤ 10 ^ 18

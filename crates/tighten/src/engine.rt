@@ -8,7 +8,6 @@ ghost use Rattle.tighten.specs.Cuts.{IsCut, IsSlack, interval, no_ends};
 ghost use Rattle.tighten.specs.Queues.{AllWait, IsIdle, StillWait};
 ghost use Rattle.tighten.specs.Replay.{left_of};
 ghost use Rattle.tighten.specs.Steps.{AreEnds, IsStep, rows_of};
-ghost use Rattle.tighten.specs.Sums.{AreWidest};
 ghost use Rattle.tighten.specs.Engines.{IsSized, IsLoaded, IsSet, IsTightened, IsKept, IsStill, IsFresh, IsAtRest, Leaves, ColumnStays, RowStays, Follows, box_in, restored};
 ghost use Rattle.tighten.specs.declared.engine.Engine.{Engine};
 
@@ -38,8 +37,6 @@ pub struct Engine {
     high: Vec<i32>,
     least: Vec<i64>,
     most: Vec<i64>,
-    // How far one term moves the sum of each row at most, over the box that was taken.
-    widest: Vec<i64>,
     queue: RowQueue,
     trail: Vec<Change>,
     steps: Vec<Step>,
@@ -59,7 +56,6 @@ impl Engine {
             high: vec![in alloc; 0; columns]?,
             least: vec![in alloc; 0; rows]?,
             most: vec![in alloc; 0; rows]?,
-            widest: vec![in alloc; 0; rows]?,
             queue: RowQueue::new(alloc, rows)?,
             trail: Vec::new(alloc),
             steps: Vec::with_capacity(alloc, MOST_STEPS)?,
@@ -80,13 +76,7 @@ impl Engine {
         let _columns = model.columns();
         self.low.copy_from_slice(bounds.lows());
         self.high.copy_from_slice(bounds.highs());
-        sums::take(
-            model,
-            bounds,
-            &mut self.least,
-            &mut self.most,
-            &mut self.widest,
-        );
+        sums::take(model, bounds, &mut self.least, &mut self.most);
         self.queue.fill();
         self.trail.clear();
         self.steps.clear();
@@ -155,7 +145,6 @@ impl Engine {
         requires occupied { low ≤ℤ high }
         ensures loaded { IsLoaded model.now self.new }
         ensures bounds { box_in self.new ≡ slice_set (box_in self.old) column (interval low high) }
-        ensures widest { self.new.widest ≡ self.old.widest }
         ensures queue { self.new.queue ≡ self.old.queue }
         ensures trail { self.new.trail ≡ self.old.trail }
         ensures steps { self.new.steps ≡ self.old.steps }
@@ -237,13 +226,10 @@ impl Engine {
         requires row { row < length model.now.rows }
         ensures loaded { IsLoaded model.now self.new }
         ensures steps { IsTightened model.now ends.now self.old result self.new }
-        ensures still { AreWidest (rows_of model.now) (box_in self.old) self.old.widest.items → length self.old.trail.items < changes → IsStill (RowStays (rows_of model.now) ends.now row (box_in self.old)) self.old result self.new }
+        ensures still { length self.old.trail.items < changes → IsStill (RowStays (rows_of model.now) ends.now row (box_in self.old)) self.old result self.new }
     {
         let _columns = model.columns();
         let mut slack = self.slack_of(model, ends, row);
-        if self.widest[row as usize] <= slack {
-            return Ok(true);
-        }
         if self.reach_of(model, row) <= slack {
             return Ok(true);
         }

@@ -5,36 +5,27 @@ ghost use Rattle.int_model.specs.Boxes.{is_empty};
 ghost use Rattle.int_model.specs.Programs.{AreTerms};
 ghost use Rattle.int_model.specs.RowSums.{coefficient};
 ghost use Rattle.tighten.specs.Steps.{rows_of};
-ghost use Rattle.tighten.specs.Sums.{AreLeast, AreGreatest, AreSmall, AreWidest, change};
+ghost use Rattle.tighten.specs.Sums.{AreLeast, AreGreatest, AreSmall, change};
 
 use activity::extremes;
 use int_model::{Model, PointBox};
 
-/// Takes the sums of each row over a box, and how far one term moves the row's sum at most.
-pub fn take(
-    model: &Model,
-    bounds: &PointBox,
-    least: &mut [i64],
-    most: &mut [i64],
-    widest: &mut [i64],
-)
+/// Takes the sums of each row over a box.
+pub fn take(model: &Model, bounds: &PointBox, least: &mut [i64], most: &mut [i64])
     requires columns { length bounds.now ≡ length model.now.columns }
     requires occupied { is_empty bounds.now ≡ false }
     requires least_count { length least.old ≡ length model.now.rows }
     requires most_count { length most.old ≡ length model.now.rows }
-    requires widest_count { length widest.old ≡ length model.now.rows }
     ensures least { AreLeast (rows_of model.now) bounds.now least.new }
     ensures most { AreGreatest (rows_of model.now) bounds.now most.new }
-    ensures widest { AreWidest (rows_of model.now) bounds.now widest.new }
 {
     let _columns = model.columns();
     let lows = bounds.lows();
     let highs = bounds.highs();
     for row in 0..model.rows() {
-        let sums = extremes(model.row(row).terms.as_slice(), lows, highs);
-        least[row as usize] = sums.least;
-        most[row as usize] = sums.most;
-        widest[row as usize] = sums.widest;
+        let (low_sum, high_sum) = extremes(model.row(row).terms.as_slice(), lows, highs);
+        least[row as usize] = low_sum;
+        most[row as usize] = high_sum;
     }
 }
 

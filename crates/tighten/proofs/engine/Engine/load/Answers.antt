@@ -1,5 +1,4 @@
-use Rattle.std.proofs.Common.{arith, ◌≡◌, ◌∙◌, ap, pos, ℕ, ℤ, List, length, replicate, true}
-use Rattle.int_model.specs.Boxes.{box_of}
+use Rattle.std.proofs.Common.{arith, ◌≡◌, ◌∙◌, ap, pos, ℤ, List, length}
 use Rattle.std.specs.Prelude.{slice_index_or}
 use Rattle.tighten.proofs.EngineLemmas.{loaded-from, refilled}
 use Rattle.tighten.proofs.StepLemmas.{sides-of}
@@ -9,8 +8,6 @@ pub returns-clause-loaded : goal.returns-clause-loaded
 returns-clause-loaded c =
     let least_count : length c.take.new.least ≡ length c.args.self.now.least.items = c.take.auto.least ∙ ap length c.deref_mut.ensures.value in
     let most_count : length c.take.new.most ≡ length c.args.self.now.most.items = c.take.auto.most ∙ ap length c.deref_mut-2.ensures.value in
-    let widest_count : length c.take.new.widest ≡ length c.args.self.now.widest.items = c.take.auto.widest ∙ ap length c.deref_mut-3.ensures.value in
-    let widest_is = refilled c.args.self.now.widest c.take.new.widest widest_count in
     let least_is = refilled c.args.self.now.least c.take.new.least least_count in
     let most_is = refilled c.args.self.now.most c.take.new.most most_count in
     loaded-from c.args.model.now _ c.args.bounds.now
@@ -19,7 +16,6 @@ returns-clause-loaded c =
       highs = ap length c.copy_from_slice-2.ensures.items ∙ c.highs.ensures.count ∙ c.requires.columns;
       least = ap length least_is ∙ least_count ∙ c.requires.sized.least;
       most = ap length most_is ∙ most_count ∙ c.requires.sized.most;
-      widest = ap length widest_is ∙ widest_count ∙ c.requires.sized.widest;
       queue = c.fill.ensures.queue;
       waits = c.fill.ensures.count ∙ c.requires.sized.waits;
       few = rw c.clear-2.ensures.items (omega arith);
@@ -36,15 +32,3 @@ returns-clause-loaded c =
 pub returns-clause-bounds : goal.returns-clause-bounds
 returns-clause-bounds c =
     rw (c.copy_from_slice.ensures.items, c.copy_from_slice-2.ensures.items, c.lows.ensures.value, c.highs.ensures.value) (sides-of c.args.bounds.now)
-
-pub returns-clause-fresh : goal.returns-clause-fresh
-returns-clause-fresh c =
-    let widest_count : length c.take.new.widest ≡ length c.args.self.now.widest.items = c.take.auto.widest ∙ ap length c.deref_mut-3.ensures.value in
-    let widest_is = refilled c.args.self.now.widest c.take.new.widest widest_count in
-    let box : box_of c.copy_from_slice.new.self.items c.copy_from_slice-2.new.self.items ≡ c.args.bounds.now = rw (c.copy_from_slice.ensures.items, c.copy_from_slice-2.ensures.items, c.lows.ensures.value, c.highs.ensures.value) (sides-of c.args.bounds.now) in
-    record {
-      widest = rw (box, widest_is) c.take.ensures.widest;
-      count = c.fill.ensures.all ∙ c.requires.sized.waits;
-      order = λ k h. c.fill.ensures.order k (omega (arith, h, c.requires.sized.waits));
-      marks = c.fill.ensures.marks ∙ ap (λ (n : ℕ). replicate n true) c.requires.sized.waits;
-    }

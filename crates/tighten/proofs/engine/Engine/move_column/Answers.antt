@@ -90,7 +90,6 @@ returns-clause-loaded c =
       most = shifted-by _ _ _ _ _ _ _ _ c.shift.new.most _ high_moved low_moved c.column_terms-terms.ensures.value c.deref_mut-2.ensures.value most_is most;
       least_count = ap length least_is ∙ least_count;
       most_count = ap length most_is ∙ most_count;
-      widest = refl;
       queue = refl;
       trail = refl;
       steps = refl;

@@ -6,11 +6,11 @@ use Rattle.int_model.specs.RowSums.{coefficient, least_sum, greatest_sum}
 use Rattle.activity.proofs.SumLemmas.{term_at}
 use Rattle.tighten.specs.Engines.{Tightens, ColumnStays, box_in}
 use Rattle.tighten.specs.Steps.{rows_of}
-use Rattle.tighten.proofs.EngineLemmas.{item-at, row-terms, tightened-at_err, tightens-as, tightens-same}
+use Rattle.tighten.proofs.EngineLemmas.{row-terms, tightened-at_err, tightens-as, tightens-same}
 use Rattle.tighten.proofs.OtherTerms.{coefficient-at}
 use Rattle.tighten.proofs.StepLemmas.{terms-at}
 use Rattle.tighten.proofs.StepRuns.{tightens-trans}
-use Rattle.tighten.proofs.StillLemmas.{grows, no-change, row-stays, term-stays, redundant-stays, widest-stays, still-as}
+use Rattle.tighten.proofs.StillLemmas.{grows, no-change, row-stays, term-stays, redundant-stays, still-as}
 use Rattle.tighten.proofs.engine.Engine.narrow_by_row.Goals as goal
 
 pub narrow_column-requires-clause-column : goal.narrow_column-requires-clause-column
@@ -41,7 +41,7 @@ pub returns-then-reach_of-slack-clause-steps : goal.returns-then-reach_of-slack-
 returns-then-reach_of-slack-clause-steps c = tightens-same c.args.model.now c.args.ends.now c.args.self.now c.requires.loaded
 
 pub returns-then-reach_of-slack-clause-still : goal.returns-then-reach_of-slack-clause-still
-returns-then-reach_of-slack-clause-still c wide few same =
+returns-then-reach_of-slack-clause-still c few same =
     let slack_fits : FitsSigned w64 c.slack_of-slack.result = search rules in
     let reach_fits : FitsSigned w64 c.reach_of.result = search rules in
     let test = simp to_z-of_z at c.if-reach_of-slack.true in
@@ -110,18 +110,7 @@ loop-column-preserved c =
     }
 
 pub returns-clause-still : goal.returns-clause-still
-returns-clause-still c wide few same =
+returns-clause-still c few same =
     let terms : slice_index_or (rows_of c.args.model.now) c.args.row [] ≡ c.as_slice-terms.result.now = terms-at c.args.model.now.rows c.args.row c.row-line.result.now c.row-line.ensures.value ∙ sym c.as_slice-terms.ensures in
     let before = c.loop-column.invariant.still same in
     (row-stays (rows_of c.args.model.now) c.args.ends.now c.args.row c.as_slice-terms.result.now (box_in c.args.self.now) (0, pos 0) terms (λ k h. before.0 k (omega arith)), before.1)
-
-pub returns-then-index-slack-clause-steps : goal.returns-then-index-slack-clause-steps
-returns-then-index-slack-clause-steps c = tightens-same c.args.model.now c.args.ends.now c.args.self.now c.requires.loaded
-
-pub returns-then-index-slack-clause-still : goal.returns-then-index-slack-clause-still
-returns-then-index-slack-clause-still c wide few same =
-    let slack_fits : FitsSigned w64 c.slack_of-slack.result = search rules in
-    let at = item-at c.args.self.now.widest.items c.args.row c.index.result.now c.index.ensures (omega (arith, c.requires.row, c.requires.loaded.sized.widest)) in
-    let widest_fits : FitsSigned w64 c.index.result.now = search rules in
-    let test = simp to_z-of_z at c.if-index-slack.true in
-    (widest-stays (length c.args.model.now.columns) (rows_of c.args.model.now) c.args.ends.now c.args.row (box_in c.args.self.now) (slice_index_or c.args.self.now.widest.items c.args.row (pos 0)) c.slack_of-slack.result (row-terms c.args.model.now c.args.row c.columns-columns.ensures.limits) c.requires.loaded.occupied c.slack_of-slack.ensures (wide c.args.row) (omega (arith, ints, test, at)), refl)

@@ -28,7 +28,7 @@ move_column-requires-clause-loaded c =
       high = rw high_at facts.high_small;
       occupied = rw (low_at, high_at) facts.ordered;
     } in
-    loaded-with c.args.model.now c.args.self.now _ c.requires.loaded refl refl refl refl refl c.add_rows.ensures.queue c.add_rows.ensures.count
+    loaded-with c.args.model.now c.args.self.now _ c.requires.loaded refl refl refl refl c.add_rows.ensures.queue c.add_rows.ensures.count
     (rw pushed (All-push (IsChange c.args.model.now) c.args.self.now.trail.items change c.requires.loaded.trail is_change))
     c.requires.loaded.sized.few c.requires.loaded.sized.room
 
@@ -46,7 +46,6 @@ returns-clause-set c =
     let high : c.index-2.result.now ≡ (interval_at (box_in c.args.self.now) c.args.column).high = high_at ∙ sym (ap (λ (i : Interval). i.high) facts.at) in
     let old : List Change → ℤ → ℤ → List Change = λ (t : List Change) (l h : ℤ). t ++ record { column = c.args.column; low = l; high = h } ∷ [] in
     record {
-      widest = c.move_column.ensures.widest;
       bounds = simp to_z-of_z at c.move_column.ensures.bounds;
       trail = ap (λ (t : Vec Change Global). t.items) c.move_column.ensures.trail ∙ pushed ∙ ap (λ (l : ℤ). old c.args.self.now.trail.items l c.index-2.result.now) low ∙ ap (old c.args.self.now.trail.items (interval_at (box_in c.args.self.now) c.args.column).low) high;
       steps = ap (λ (t : Vec Step Global). t.items) c.move_column.ensures.steps;
