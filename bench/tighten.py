@@ -4,43 +4,45 @@ usage: tighten.py PROGRAM [TRIES]
 
 PROGRAM is the built program of the crate tighten_rounds. Each call is timed as the difference between a run of many
 rounds and a run of none, divided by the rounds. `terms` reads each row's terms once, `least` makes each row's least
-sum, `replay` applies a step at each row, and `propose` is timed on a box that no row narrows and on one that many
-rows narrow. Prints the median over the tries in microseconds a round.
+sum, `replay` applies a step at each row, and `propose` is timed on three boxes: one whose rows allow each of their
+sums (wide), one whose rows don't but narrow nothing (close), and one that many rows narrow (narrow). Prints the least
+processor time over the tries in microseconds a round, and how many times that of `terms` it is.
 """
 import os
-import statistics
 import subprocess
 import sys
 import tempfile
-import time
 
 from limits import ROWS, write_model
 
-ROUNDS = {"terms": 2000, "least": 2000, "replay": 500, "propose": 200}
+ROUNDS = {"terms": 1000, "least": 1000, "replay": 300, "propose": 300}
+ENDS = {"wide": 900_000_000, "close": 4_000_000, "narrow": 20_000}
+CASES = [("terms", "wide"), ("least", "wide"), ("replay", "wide"), ("propose", "wide"), ("propose", "close"), ("propose", "narrow")]
 
 
 def seconds(program, model, call, rounds):
-    start = time.perf_counter()
-    run = subprocess.run([program, model, call, str(rounds)], capture_output=True)
-    assert run.returncode == 0, (run.returncode, run.stderr)
-    return time.perf_counter() - start
+    run = subprocess.Popen([program, model, call, str(rounds)], stdout=subprocess.DEVNULL)
+    _, status, usage = os.wait4(run.pid, 0)
+    assert status == 0, status
+    return usage.ru_utime + usage.ru_stime
 
 
 def main():
     program = os.path.abspath(sys.argv[1])
     tries = int(sys.argv[2]) if len(sys.argv) > 2 else 7
     with tempfile.TemporaryDirectory() as folder:
-        wide, narrow = os.path.join(folder, "wide.mps"), os.path.join(folder, "narrow.mps")
-        write_model(wide, [("L", 900_000_000)] * ROWS)
-        write_model(narrow, [("L", 20_000)] * ROWS)
-        for call, model in [("terms", wide), ("least", wide), ("replay", wide), ("propose", wide), ("propose", narrow)]:
-            rounds = ROUNDS[call]
-            times = []
-            for _ in range(tries):
-                none = seconds(program, model, call, 0)
-                times.append((seconds(program, model, call, rounds) - none) / rounds)
-            name = os.path.basename(model)
-            print(f"{call:8} {name:11} {statistics.median(times) * 1e6:9.1f} us a round")
+        models = {name: os.path.join(folder, f"{name}.mps") for name in ENDS}
+        for name, end in ENDS.items():
+            write_model(models[name], [("L", end)] * ROWS)
+        none = {case: [] for case in CASES}
+        many = {case: [] for case in CASES}
+        for _ in range(tries):
+            for call, name in CASES:
+                none[call, name].append(seconds(program, models[name], call, 0))
+                many[call, name].append(seconds(program, models[name], call, ROUNDS[call]))
+        times = {case: (min(many[case]) - min(none[case])) / ROUNDS[case[0]] * 1e6 for case in CASES}
+        for (call, name), time in times.items():
+            print(f"{call:8} {name:7} {time:9.1f} us a round, {time / times['terms', 'wide']:5.2f} times `terms`")
 
 
 if __name__ == "__main__":

@@ -1,5 +1,5 @@
 -- The least and the greatest product of a coefficient with a number of an interval, by the coefficient's sign.
-use Rattle.std.specs.Prelude.{◌≡◌, zero, suc, ◌<◌, ℤ, pos, negsuc, ◌*ℤ◌, ◌≤ℤ◌, ◌<ℤ◌}
+use Rattle.std.specs.Prelude.{◌≡◌, zero, suc, ℤ, pos, negsuc, ◌*ℤ◌, ◌≤ℤ◌, ◌<ℤ◌}
 use Rattle.std.proofs.Common.{arith}
 use Rattle.std.proofs.lemmas.Int.{ints, clamps}
 use Rattle.int_model.specs.Boxes.{Interval}

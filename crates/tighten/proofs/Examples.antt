@@ -3,6 +3,9 @@ use Rattle.std.specs.Prelude.{◌≡◌, ℕ, ℤ, pos, negsuc, List, [], ◌∷
 use Rattle.int_model.specs.Boxes.{Box, box_of}
 use Rattle.int_model.specs.Programs.{Program, Terms}
 use Rattle.int_model.specs.declared.model.Ends.{Ends}
+use Rattle.tighten.specs.Cuts.{interval, above_end, below_end}
+use Rattle.tighten.specs.Engines.{restored, EachNarrows}
+use Rattle.tighten.specs.Sums.{change}
 use Rattle.tighten.specs.Replay.{tightened, replay}
 use Rattle.tighten.specs.declared.step.Step.{Step}
 use Rattle.tighten.specs.declared.step.RowEnd.{RowEnd}
@@ -98,3 +101,25 @@ replay-apart = refl
 
 replay-empties : replay (record cap { bounds = box_of (pos 3 ∷ pos 0 ∷ []) (pos 3 ∷ pos 3 ∷ []) }) both square ≡ None
 replay-empties = refl
+
+-- the second step doesn't narrow what the first leaves
+both-narrow : EachNarrows cap_rows cap_ends both square → ⊥
+both-narrow h = h 1 (step 1 Upper) refl refl
+
+-- ---- the engine's words
+
+-- 2x + y at most 4 with x in 1..3 and a least sum of 2: 2x at most 4, of which x's own least product is 2
+below-least : below_end (Some (pos 4)) (pos 2) (pos 2) (interval (pos 1) (pos 3)) ≡ interval (pos 1) (pos 2)
+below-least = refl
+
+-- -2x + y at least -4 with x in 1..3 and a greatest sum of -1: y is at most 1, so 2x at most 5, and x at most 2
+above-most : above_end (Some (negsuc 3)) (negsuc 0) (negsuc 1) (interval (pos 1) (pos 3)) ≡ interval (pos 1) (pos 2)
+above-most = refl
+
+-- a coefficient below 0 takes its least product at the high end
+change-below : change (pos 2) (negsuc 4) (negsuc 0) ≡ pos 5
+change-below = refl
+
+-- of two changes of a column the older one says what there was
+restored-twice : restored (record { column = 0; low = pos 0; high = pos 9 } ∷ record { column = 0; low = pos 2; high = pos 9 } ∷ []) (box_of (pos 5 ∷ []) (pos 5 ∷ [])) ≡ box_of (pos 0 ∷ []) (pos 9 ∷ [])
+restored-twice = refl

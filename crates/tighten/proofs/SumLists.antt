@@ -1,14 +1,13 @@
 -- Lists of sums, one place after another.
-use Rattle.std.specs.Prelude.{◌≡◌, ◌≢◌, ℕ, ◌+◌, ◌<◌, ◌≤◌, ℤ, pos, ◌+ℤ◌, nat_eq, nat_lt, if◌then◌else◌, Bool, true, false, List, [], length, take, slice_index_or, slice_set, refl}
+use Rattle.std.specs.Prelude.{◌≡◌, ◌≢◌, ℕ, ◌+◌, ◌<◌, ℤ, pos, ◌+ℤ◌, nat_eq, if◌then◌else◌, Bool, true, false, List, length, take, slice_index_or, slice_set, refl}
 use Rattle.std.proofs.Common.{arith, ap, sym, ◌∙◌, subst, below_more}
-use Rattle.std.proofs.lemmas.List.{get_or-set_same, get_or-set_other, get_or_past}
+use Rattle.std.proofs.lemmas.List.{get_or-set_same, get_or-set_other}
 use Rattle.std.proofs.lemmas.Bool.Decides.{nat_tests}
 use Rattle.std.proofs.lemmas.Int.{ints}
-use Rattle.int_model.specs.Boxes.{Box, Interval}
 use Rattle.int_model.specs.Programs.{Terms, AreTerms}
 use Rattle.int_model.specs.RowSums.{coefficient}
 use Rattle.tighten.specs.Sums.{change}
-use Rattle.tighten.proofs.SumChanges.{sum_of, coefficient-more, coefficient-before}
+use Rattle.tighten.proofs.SumChanges.{coefficient-more, coefficient-before}
 
 -- one more place is filled
 pub filled : (P : ℕ → ℤ → Type 0) (xs : List ℤ) (k : ℕ) (v : ℤ) → k < length xs → ((i : ℕ) → i < k → P i (slice_index_or xs i (pos 0))) → P k v → (i : ℕ) → i < k + 1 → P i (slice_index_or (slice_set xs k v) i (pos 0))
@@ -16,16 +15,6 @@ filled P xs k v inside before here =
     below_more _ k
     (λ i h. let other : i ≢ k = omega arith in subst (P i) (sym (get_or-set_other xs k i v (pos 0) other)) (before i h))
     (subst (P k) (sym (get_or-set_same xs k v (pos 0) inside)) here)
-
--- places past the end count as rows without terms
-pub all-places : (f : ℤ → Interval → ℤ) (rows : List Terms) (xs : List ℤ) (box : Box) → length xs ≡ length rows → ((i : ℕ) → i < length rows → slice_index_or xs i (pos 0) ≡ sum_of f (slice_index_or rows i []) box) → (i : ℕ) → slice_index_or xs i (pos 0) ≡ sum_of f (slice_index_or rows i []) box
-all-places f rows xs box same h i = at (nat_lt i (length rows)) refl
-  where
-    at : (b : Bool) → nat_lt i (length rows) ≡ b → slice_index_or xs i (pos 0) ≡ sum_of f (slice_index_or rows i []) box
-    at true e = h i (grind (arith, nat_tests))
-    at false e =
-        let late : length rows ≤ i = grind (arith, nat_tests) in
-        get_or_past xs i (pos 0) (omega (arith, late, same)) ∙ sym (ap (λ (ts : Terms). sum_of f ts box) (get_or_past rows i [] late))
 
 -- ---- the terms of a column, one after another
 

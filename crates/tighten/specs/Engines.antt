@@ -1,5 +1,5 @@
 -- The engine's box, the trail of its changes, and the steps that it takes.
-use Rattle.std.specs.Prelude.{◌≡◌, ◌≢◌, ℕ, ◌<◌, ◌≤◌, ℤ, ◌≤ℤ◌, Bool, true, false, if◌then◌else◌, List, [], ◌∷◌, ◌++◌, length, take, slice_get, slice_index_or, slice_set, Option, Some, None, Result, Ok, Err, All, vec_capacity}
+use Rattle.std.specs.Prelude.{◌≡◌, ◌≢◌, ℕ, ◌<◌, ◌≤◌, ℤ, ◌≤ℤ◌, Bool, true, false, if◌then◌else◌, List, [], ◌∷◌, ◌++◌, length, replicate, take, slice_get, slice_index_or, slice_set, Option, Some, None, Result, Ok, Err, All, vec_capacity}
 use Rattle.std.specs.declared.alloc.AllocError.{AllocError}
 use Rattle.int_model.specs.Limits.{IsBound}
 use Rattle.int_model.specs.Boxes.{Box, box_of, interval_at, is_empty}
@@ -137,6 +137,7 @@ IsStill P before (Err _) now = Unit {0}
 pub record IsFresh (m : IntegerModel) (e : Engine) : Type 0 where
   pub count : length e.queue.rows.items ≡ length m.rows
   pub order : (k : ℕ) → k < length m.rows → slice_index_or e.queue.rows.items k 0 ≡ k
+  pub marks : e.queue.waits.items ≡ replicate (length m.rows) true
 
 -- every step leaves the box as it is
 abbrev pub IsSettled : IntegerModel → List Ends → Box → Type 0

@@ -1,9 +1,11 @@
 // The engine of bound tightening: a box whose rows' sums are kept while its intervals change.
-ghost use Rattle.std.specs.Prelude.{◌≡◌, ◌<◌, ◌≤◌, ◌-ℤ◌, ◌*ℤ◌, ◌≤ℤ◌, pos, unsigned_abs, [], ◌++◌, ◌∷◌, drop, take, length, slice_index_or, slice_set, IfOk, false, vec_capacity};
+ghost use Rattle.std.specs.Prelude.{◌≡◌, ◌<◌, ◌≤◌, ◌-ℤ◌, ◌*ℤ◌, ◌≤ℤ◌, pos, unsigned_abs, [], ◌++◌, ◌∷◌, drop, take, length, slice_index_or, slice_set, IfOk, OnOk, false, vec_capacity};
 ghost use Rattle.int_model.specs.Boxes.{interval_at, is_empty};
+ghost use Rattle.int_model.specs.ByColumn.{column_terms};
 ghost use Rattle.int_model.specs.Limits.{IsBound, IsEntry};
 ghost use Rattle.int_model.specs.RowSums as row_sums;
 ghost use Rattle.tighten.specs.Cuts.{IsCut, IsSlack, interval, no_ends};
+ghost use Rattle.tighten.specs.Queues.{AllWait, IsIdle, StillWait};
 ghost use Rattle.tighten.specs.Replay.{left_of};
 ghost use Rattle.tighten.specs.Steps.{AreEnds, IsStep, rows_of};
 ghost use Rattle.tighten.specs.Engines.{IsSized, IsLoaded, IsSet, IsTightened, IsKept, IsStill, IsFresh, IsAtRest, Leaves, ColumnStays, RowStays, Follows, box_in, restored};
@@ -43,7 +45,9 @@ pub struct Engine {
 impl Engine {
     /// An engine for a model's columns and rows, which takes its box by `load`.
     pub fn new(alloc: Global, model: &Model) -> Result<Engine, AllocError>
-        ensures { IfOk result (λ e. IsSized model.now e) }
+        ensures sized { IfOk result (λ e. IsSized model.now e) }
+        ensures steps { IfOk result (λ e. e.steps.items ≡ []) }
+        ensures trail { IfOk result (λ e. e.trail.items ≡ []) }
     {
         let columns = model.columns() as usize;
         let rows = model.rows() as usize;
@@ -116,6 +120,8 @@ impl Engine {
         requires occupied { low ≤ℤ high }
         ensures loaded { IsLoaded model.now self.new }
         ensures set { IsSet column low high self.old result self.new }
+        ensures queued { OnOk result (AllWait (column_terms column 0 (rows_of model.now)) self.new.queue) }
+        ensures kept { StillWait self.old.queue self.new.queue }
     {
         let _columns = model.columns();
         self.queue.add_rows(model.column_terms(column))?;
@@ -139,6 +145,7 @@ impl Engine {
         requires occupied { low ≤ℤ high }
         ensures loaded { IsLoaded model.now self.new }
         ensures bounds { box_in self.new ≡ slice_set (box_in self.old) column (interval low high) }
+        ensures queue { self.new.queue ≡ self.old.queue }
         ensures trail { self.new.trail ≡ self.old.trail }
         ensures steps { self.new.steps ≡ self.old.steps }
     {
@@ -166,6 +173,7 @@ impl Engine {
         ensures bounds { box_in self.new ≡ restored (drop mark self.old.trail.items) (box_in self.old) }
         ensures trail { self.new.trail.items ≡ take mark self.old.trail.items }
         ensures steps { self.new.steps.items ≡ self.old.steps.items }
+        ensures idle { IsIdle self.new.queue }
         ensures back { (before : Engine) → length before.trail.items ≡ mark → Follows before self.old → box_in self.new ≡ box_in before }
     {
         'changes: while self.trail.len() > mark {

@@ -1,6 +1,6 @@
 // The rows that bound tightening has yet to look at.
-ghost use Rattle.std.specs.Prelude.{◌≡◌, ◌<◌, ◌≤◌, ℕ, ℤ, All, length, slice_index_or, IfOk, IfSome};
-ghost use Rattle.tighten.specs.Queues.{IsQueue, IsTaken};
+ghost use Rattle.std.specs.Prelude.{◌≡◌, ◌<◌, ◌≤◌, ℕ, ℤ, All, length, replicate, slice_index_or, true, IfOk, IfSome, OnOk};
+ghost use Rattle.tighten.specs.Queues.{AllWait, IsAdded, IsIdle, IsQueue, IsTaken, StillWait};
 
 use std::alloc::{AllocError, Global};
 use std::collections::VecDeque;
@@ -18,6 +18,7 @@ impl RowQueue {
         requires { rows ≤ 1000 }
         ensures queue { IfOk result IsQueue }
         ensures count { IfOk result (λ q. length q.waits.items ≡ rows) }
+        ensures idle { IfOk result IsIdle }
     {
         Ok(RowQueue {
             rows: VecDeque::with_capacity(alloc, rows)?,
@@ -30,6 +31,7 @@ impl RowQueue {
         requires { IsQueue self.old }
         ensures queue { IsQueue self.new }
         ensures count { length self.new.waits.items ≡ length self.old.waits.items }
+        ensures marks { self.new.waits.items ≡ replicate (length self.old.waits.items) true }
         ensures all { length self.new.rows.items ≡ length self.old.waits.items }
         ensures order { (k : ℕ) → k < length self.old.waits.items → slice_index_or self.new.rows.items k 0 ≡ k }
     {
@@ -40,12 +42,13 @@ impl RowQueue {
         self.waits.fill(true);
     }
 
-    /// Queues a row, unless it waits already.
+    /// Queues a row, unless it waits already. On want of memory the queue is as before.
     pub fn add(&mut self, row: u32) -> Result<(), AllocError>
         requires queue { IsQueue self.old }
         requires row { row < length self.old.waits.items }
         ensures queue { IsQueue self.new }
         ensures count { length self.new.waits.items ≡ length self.old.waits.items }
+        ensures added { IsAdded row self.old result self.new }
     {
         if !self.waits[row as usize] {
             self.rows.push_back(row)?;
@@ -54,12 +57,15 @@ impl RowQueue {
         Ok(())
     }
 
-    /// Queues the rows of a column's terms.
+    /// Queues the rows of a column's terms, those that don't wait already. On want of memory some of them
+    /// are queued.
     pub fn add_rows(&mut self, terms: &[(u32, i64)]) -> Result<(), AllocError>
         requires queue { IsQueue self.old }
         requires rows { All (λ (t : ℕ × ℤ). t.0 < length self.old.waits.items) terms.now }
         ensures queue { IsQueue self.new }
         ensures count { length self.new.waits.items ≡ length self.old.waits.items }
+        ensures added { OnOk result (AllWait terms.now self.new) }
+        ensures kept { StillWait self.old self.new }
     {
         for &(row, _) in terms {
             self.add(row)?;
@@ -73,7 +79,7 @@ impl RowQueue {
         ensures queue { IsQueue self.new }
         ensures count { length self.new.waits.items ≡ length self.old.waits.items }
         ensures row { IfSome result (λ row. row < length self.old.waits.items) }
-        ensures first { IsTaken self.old.rows.items result self.new.rows.items }
+        ensures first { IsTaken self.old result self.new }
     {
         let row = self.rows.pop_front()?;
         self.waits[row as usize] = false;
@@ -85,6 +91,7 @@ impl RowQueue {
         requires { IsQueue self.old }
         ensures queue { IsQueue self.new }
         ensures count { length self.new.waits.items ≡ length self.old.waits.items }
+        ensures idle { IsIdle self.new }
     {
         self.rows.clear();
         self.waits.fill(false);

@@ -1,4 +1,4 @@
-use Rattle.std.proofs.Common.{arith, ◌≡◌, ◌≤ℤ◌, ◌<ℤ◌, sym, ◌∙◌, ℤ, pos, ◌*ℤ◌, FitsSigned, w64, w32}
+use Rattle.std.proofs.Common.{arith, ◌≡◌, ◌≤ℤ◌, ◌<ℤ◌, sym, ◌∙◌, pos, ◌*ℤ◌, FitsSigned, w64, w32}
 use Rattle.std.proofs.lemmas.Int.{ints, to_z-of_z}
 use Rattle.int_model.specs.Boxes.{Interval}
 use Rattle.activity.proofs.ProductLemmas.{ends-above, ends-below}

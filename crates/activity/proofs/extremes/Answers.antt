@@ -1,4 +1,4 @@
-use Rattle.std.proofs.Common.{rules, arith, ◌≡◌, ◌≤ℤ◌, pos, ℕ, ℤ, get_or, FitsSigned, w64, w32}
+use Rattle.std.proofs.Common.{rules, arith, pos, ℕ, ℤ, get_or, FitsSigned, w64, w32}
 use Rattle.std.proofs.lemmas.Int.{ints, to_z-of_z}
 use Rattle.int_model.specs.RowSums.{least_product, greatest_product}
 use Rattle.activity.proofs.SumLemmas.{term_at, few_terms, sum_of-more, ordered-at}

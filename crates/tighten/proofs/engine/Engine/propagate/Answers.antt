@@ -37,7 +37,7 @@ rows-preserved c =
           let late : length c.narrow_by_row.new.self.trail.items ≡ length c.rows.self.trail.items = omega (arith, early, same) in
           let before = c.rows.invariant.still fresh few early in
           let here = (still-as _ (record c.rows.self { queue = c.take.new.self }) c.narrow_by_row.new.self c.in_ok-narrow_by_row.field-0 c.if-not-branch.false (c.in_ok-narrow_by_row.ensures.still (omega (arith, early, few)))) late in
-          let next = next-row c.args.self.now.queue.rows.items c.take.new.self.rows.items c.rows.counter c.in-Some.row (length c.args.model.now.rows) (sym before.0 ∙ c.in-Some.ensures.first) fresh.count fresh.order in
+          let next = next-row c.args.self.now.queue.rows.items c.take.new.self.rows.items c.rows.counter c.in-Some.row (length c.args.model.now.rows) (sym before.0 ∙ c.in-Some.ensures.first.0) fresh.count fresh.order in
           let row : RowStays (rows_of c.args.model.now) c.args.ends.now c.rows.counter (box_in c.args.self.now) = subst (λ (i : ℕ). RowStays (rows_of c.args.model.now) c.args.ends.now i (box_in c.args.self.now)) next.is_row (subst (RowStays (rows_of c.args.model.now) c.args.ends.now c.in-Some.row) (no-change c.args.self.now c.rows.self c.rows.invariant.steps.follows early) here.0) in
           (ap (λ (q : RowQueue). q.rows.items) here.1 ∙ next.later, below_more _ c.rows.counter before.1 row);
     }
