@@ -1,10 +1,10 @@
 -- What is refused: exactly the parts that break a limit.
-use Rattle.std.proofs.Common.{◌≡◌, ℕ, ◌+◌, ◌^◌, ◌≤◌, ℤ, pos, unsigned_abs, List, [], ◌∷◌, length, Bool, true, false, nat_lt, Option, Some, None, refl, arith, inl, inr}
+use Rattle.std.proofs.Common.{◌≡◌, ℕ, ◌+◌, ◌^◌, ◌≤◌, ℤ, pos, unsigned_abs, List, [], ◌∷◌, length, Bool, true, false, nat_lt, Option, Some, None, refl, arith}
 use Rattle.std.specs.Prelude.{◌≢◌, ◌||◌, if◌then◌else◌}
 use Rattle.std.specs.Ordering.{int_eq}
-use Rattle.std.proofs.lemmas.Bool.{cases_Bool, false_from_ne_true, le-ltb, both_ways}
+use Rattle.std.proofs.lemmas.Bool.{false_from_ne_true, le-ltb, both_ways}
 use Rattle.std.proofs.lemmas.Bool.Decides.{nat_tests, Decides-int_eq}
-use Rattle.dual_bounds.specs.Vectors.{Entry, Multipliers, AreEntries, KeepsLimits}
+use Rattle.dual_bounds.specs.Vectors.{Entry, AreEntries, KeepsLimits}
 use Rattle.dual_bounds.specs.Refusals.{is_bad, entries_refusal, refusal}
 use Rattle.dual_bounds.specs.declared.vector.VectorError.{VectorError}
 use Rattle.dual_bounds.specs.declared.vector.VectorError.TheVariants.{BadScale, TooMany, BadEntry}

@@ -1,19 +1,19 @@
 -- The sum and the bound of a vector are at most those of each feasible point of the box.
-use Rattle.std.specs.Prelude.{◌≡◌, ℕ, zero, suc, ◌+◌, ◌*◌, ◌^◌, ◌<◌, ℤ, pos, negsuc, ◌+ℤ◌, ◌*ℤ◌, neg_ℤ, ◌≤ℤ◌, ◌<ℤ◌, List, [], ◌∷◌, length, slice_index_or, Bool, true, false, cond, nat_eq, int_lt, Option, Some, None, is_some, unwrap_or, IfSome, refl}
+use Rattle.std.specs.Prelude.{◌≡◌, ℕ, zero, suc, ◌+◌, ◌*◌, ◌^◌, ◌<◌, ℤ, pos, negsuc, ◌+ℤ◌, ◌*ℤ◌, neg_ℤ, ◌≤ℤ◌, ◌<ℤ◌, List, [], ◌∷◌, length, slice_index_or, Bool, true, false, cond, nat_eq, int_lt, Option, Some, None, is_some, IfSome, refl}
 use Rattle.std.proofs.Common.{arith, ap, sym, ◌∙◌, subst}
 use Rattle.std.proofs.lemmas.Bool.Decides.{nat_tests}
 use Rattle.std.proofs.lemmas.Int.{ints, clamps}
 use borrow.Author.Differences.{up, down, neg_is, product_is}
 use Rattle.int_model.specs.Integers.{int_at, int_sum_by, dot, ceil_div}
 use Rattle.int_model.specs.Boxes.{Box, InBox}
-use Rattle.int_model.specs.Programs.{Program, Terms, Feasible, IsBetween, row_sum, value, ColumnsBelow, AllColumnsBelow, HasShape, KeepsLimits}
+use Rattle.int_model.specs.Programs.{Program, Terms, IsBetween, row_sum, value, ColumnsBelow, AllColumnsBelow, KeepsLimits}
 use Rattle.int_model.specs.RowSums.{coefficient}
 use Rattle.int_model.specs.declared.model.Ends.{Ends}
 use Rattle.int_model.proofs.BoxLaws.{length-InBox}
 use Rattle.int_model.proofs.IntegerLaws.{mul-le-pos, mul-le-negsuc, mul-add, add-mul, neg-mul, div-above}
 use Rattle.int_model.proofs.RowSumLaws.{least_product-le, IsBetween_at}
 use Rattle.int_model.proofs.LimitLaws.{values-fit}
-use Rattle.dual_bounds.specs.Vectors.{Entry, Multipliers, end_for, side, counted, end_sum, share, reduced_cost, least_reduced, vector_sum, within_range, vector_bound, program_sum, program_bound}
+use Rattle.dual_bounds.specs.Vectors.{Entry, Multipliers, side, counted, end_sum, reduced_cost, least_reduced, within_range, program_sum, program_bound}
 use Rattle.dual_bounds.specs.Laws.{IsFeasibleIn}
 
 pub mul_assoc : (a b c : ℤ) → (a *ℤ b) *ℤ c ≡ a *ℤ (b *ℤ c)

@@ -1,5 +1,5 @@
 -- What is wrong with a vector's parts.
-use Rattle.std.specs.Prelude.{◌+◌, ◌^◌, ℕ, ℤ, pos, unsigned_abs, Bool, ◌||◌, nat_lt, if◌then◌else◌, List, [], ◌∷◌, length, Option, Some, None}
+use Rattle.std.specs.Prelude.{◌+◌, ◌^◌, ℕ, pos, unsigned_abs, Bool, ◌||◌, nat_lt, if◌then◌else◌, List, [], ◌∷◌, length, Option, Some, None}
 use Rattle.int_model.specs.Integers.{int_eq}
 use Rattle.dual_bounds.specs.Vectors.{Entry}
 use Rattle.dual_bounds.specs.declared.vector.VectorError.{VectorError}

@@ -4,7 +4,10 @@
 //! bound of a vector over a box, and `laws` has what is proved of them.
 #![tactic(auto)]
 
+mod bounding;
 pub mod laws;
+mod parts;
 mod vector;
 
+pub use bounding::{bound, evaluate};
 pub use vector::{Vector, VectorError};

@@ -1,4 +1,4 @@
-use Rattle.std.proofs.Common.{rules, ◌≡◌, ◌∙◌, sym, subst, ℕ, List, Some, None}
+use Rattle.std.proofs.Common.{rules, ◌≡◌, sym, subst, List, None}
 use Rattle.dual_bounds.specs.Vectors.{Entry, KeepsLimits}
 use Rattle.dual_bounds.specs.Refusals.{refusal}
 use Rattle.dual_bounds.proofs.RefusalLaws.{unrefused-keeps}
