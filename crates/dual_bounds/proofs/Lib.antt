@@ -1,0 +1,5 @@
+pub mod VectorLaws
+pub mod RefusalLaws
+pub mod ProductLemmas
+pub mod MergeLemmas
+pub mod SumLemmas

@@ -1,0 +1,4 @@
+pub mod Vectors
+pub mod Refusals
+pub mod Merging
+pub mod Laws

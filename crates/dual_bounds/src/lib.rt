@@ -1,0 +1,13 @@
+//! Safe dual bounds (Lagrangian bounds) from whole-number multipliers of rows.
+//!
+//! A contract sees a vector as its scale and its entries. `specs/Vectors.antt` defines the sum and the
+//! bound of a vector over a box, and `laws` has what is proved of them.
+#![tactic(auto)]
+
+mod bounding;
+pub mod laws;
+mod parts;
+mod vector;
+
+pub use bounding::{bound, evaluate};
+pub use vector::{Vector, VectorError};

@@ -1,0 +1,148 @@
+// The parts of a vector's sum.
+ghost use Rattle.std.specs.Prelude.{◌≡◌, ◌^◌, ◌<◌, ◌≤◌, ◌-ℤ◌, ◌*ℤ◌, pos, unsigned_abs, length, slice_index_or, drop, unwrap_or};
+ghost use Rattle.int_model.specs.Limits.{IsBound, IsEntry};
+ghost use Rattle.int_model.specs.RowSums as sums;
+ghost use Rattle.dual_bounds.specs.Vectors as spec;
+ghost use Rattle.dual_bounds.specs.Vectors.{AreEntries, counted, RowsBelow};
+ghost use Rattle.dual_bounds.specs.Merging.{AreRising, IsMultiplier, IsPlace, column_share, counting};
+
+use int_model::Ends;
+
+// The row's lower end for a multiplier above 0, else its upper end.
+fn side(ends: &[Ends], row: u32, multiplier: i64) -> Option<i64>
+    requires { row < length ends.now }
+    ensures { result ≡ spec.side ends.now (row, multiplier) }
+{
+    let of_row = ends[row as usize];
+    if multiplier > 0 {
+        of_row.lower
+    } else {
+        of_row.upper
+    }
+}
+
+// A multiplier times its end, 0 where the row hasn't got that end.
+fn end_product(ends: &[Ends], row: u32, multiplier: i64) -> i128
+    requires row { row < length ends.now }
+    requires multiplier { IsMultiplier multiplier }
+    ensures value { result ≡ multiplier *ℤ unwrap_or (spec.side ends.now (row, multiplier)) (pos 0) }
+    ensures limit { unsigned_abs result ≤ 2 ^ 103 }
+{
+    let end = side(ends, row, multiplier).unwrap_or(0);
+    i128::from(multiplier) * i128::from(end)
+}
+
+/// The multipliers times the ends that their rows have.
+pub fn end_sum(ends: &[Ends], entries: &[(u32, i64)]) -> i128
+    requires few { length entries.now ≤ 128 }
+    requires entries { AreEntries 0 entries.now }
+    requires rows { RowsBelow (length ends.now) entries.now }
+    ensures value { result ≡ spec.end_sum ends.now (counted ends.now entries.now) }
+    ensures limit { unsigned_abs result ≤ 2 ^ 110 }
+{
+    let mut sum = 0;
+    for &(row, multiplier) in entries {
+        sum += end_product(ends, row, multiplier);
+    }
+    sum
+}
+
+// The first place, from one on, whose row isn't before this row.
+fn place_of(terms: &[(u32, i64)], from: usize, row: u32) -> usize
+    requires { from ≤ length terms.now }
+    ensures { IsPlace terms.now from row result }
+{
+    let mut place = from;
+    while place < terms.len() && terms[place].0 < row {
+        place += 1;
+    }
+    place
+}
+
+// The coefficient of a row, where no row before it stands from the place on.
+fn coefficient_at(terms: &[(u32, i64)], place: usize, row: u32) -> i64
+    requires terms { AreRising terms.now }
+    requires reached { place < length terms.now → row ≤ (slice_index_or terms.now place (0, pos 0)).0 }
+    ensures value { result ≡ sums.coefficient row (drop place terms.now) }
+    ensures limit { IsEntry result }
+{
+    if place < terms.len() && terms[place].0 == row {
+        terms[place].1
+    } else {
+        0
+    }
+}
+
+// The multiplier, 0 where the row hasn't got its end.
+fn counting_multiplier(ends: &[Ends], row: u32, multiplier: i64) -> i64
+    requires row { row < length ends.now }
+    requires multiplier { IsMultiplier multiplier }
+    ensures value { result ≡ counting ends.now (row, multiplier) }
+    ensures limit { IsMultiplier result }
+{
+    match side(ends, row, multiplier) {
+        Some(_) => multiplier,
+        None => 0,
+    }
+}
+
+// A multiplier times a coefficient.
+fn entry_product(multiplier: i64, coefficient: i64) -> i128
+    requires multiplier { IsMultiplier multiplier }
+    requires coefficient { IsEntry coefficient }
+    ensures value { result ≡ multiplier *ℤ coefficient }
+    ensures limit { unsigned_abs result ≤ 2 ^ 70 }
+{
+    i128::from(multiplier) * i128::from(coefficient)
+}
+
+/// The multipliers that count times the coefficients of a column, whose rows rise as those of the
+/// entries do.
+pub fn share(column: &[(u32, i64)], ends: &[Ends], entries: &[(u32, i64)]) -> i128
+    requires column { AreRising column.now }
+    requires few { length entries.now ≤ 128 }
+    requires entries { AreEntries 0 entries.now }
+    requires rows { RowsBelow (length ends.now) entries.now }
+    ensures value { result ≡ column_share column.now (counted ends.now entries.now) }
+    ensures limit { unsigned_abs result ≤ 2 ^ 77 }
+{
+    let mut sum = 0;
+    let mut place = 0;
+    for &(row, multiplier) in entries {
+        place = place_of(column, place, row);
+        let counted = counting_multiplier(ends, row, multiplier);
+        sum += entry_product(counted, coefficient_at(column, place, row));
+    }
+    sum
+}
+
+/// The cost of a column, times the scale, less its share of the rows.
+pub fn reduced_cost(scale: u32, cost: i64, share: i128) -> i128
+    requires scale { scale ≤ 2 ^ 20 }
+    requires share { unsigned_abs share ≤ 2 ^ 77 }
+    ensures value { result ≡ pos scale *ℤ cost -ℤ share }
+    ensures limit { unsigned_abs result ≤ 2 ^ 84 }
+{
+    i128::from(scale) * i128::from(cost) - share
+}
+
+// A reduced cost times a number of an interval.
+fn product(reduced: i128, number: i32) -> i128
+    requires reduced { unsigned_abs reduced ≤ 2 ^ 84 }
+    requires number { IsBound number }
+    ensures value { result ≡ reduced *ℤ number }
+    ensures limit { unsigned_abs result ≤ 2 ^ 104 }
+{
+    reduced * i128::from(number)
+}
+
+/// The least of a reduced cost times a number of an interval.
+pub fn least_product(reduced: i128, low: i32, high: i32) -> i128
+    requires reduced { unsigned_abs reduced ≤ 2 ^ 84 }
+    requires low { IsBound low }
+    requires high { IsBound high }
+    ensures value { result ≡ sums.least_product reduced (record { low = low; high = high }) }
+    ensures limit { unsigned_abs result ≤ 2 ^ 104 }
+{
+    product(reduced, low).min(product(reduced, high))
+}
