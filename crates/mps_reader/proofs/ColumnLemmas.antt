@@ -208,6 +208,7 @@ entries_pushed names columns rows count ls es m absent a = record {
   counted = a.counted;
   few = a.few;
   apart = distinct_push columns m a.apart absent;
+  total = a.total;
 }
 
 pub entries_grown : (b : Bool) (names columns new_columns : List (List ℕ)) (items new_items : List ColumnDraft) (part : Bool) (m : List ℕ) (rows : List RowDraft) (count : ℕ) (ls : List Line) (es : List Entry) → AddsColumn b columns items new_columns new_items part m → EntriesAgree names rows columns count ls es → EntriesAgree names rows new_columns count ls es

@@ -1,13 +1,13 @@
 -- How a line of each section continues a draft.
-use Rattle.std.proofs.Common.{◌≡◌, ◌∙◌, ap, sym, subst, ℕ, ◌+◌, ◌-◌, ◌<◌, Bool, true, false, ◌&&◌, ◌||◌, not, cond, List, [], ◌∷◌, ◌++◌, map, length, Option, Some, None, refl, append-nil, arith, Bor}
+use Rattle.std.proofs.Common.{◌≡◌, ◌∙◌, ap, sym, subst, ℕ, ◌+◌, ◌-◌, ◌<◌, Bool, true, false, ◌&&◌, ◌||◌, not, cond, List, [], ◌∷◌, ◌++◌, map, length, Option, Some, None, refl, append-nil, arith, Bor, add-zero, ℤ, ◌≤◌, unsigned_abs}
 use Rattle.std.specs.Prelude.{bytes_eq, filter, filter_map, flat_map, codes, option_map, position, slice_set, slice_index_or, unwrap_or, if◌then◌else◌, ◌^◌}
-use Rattle.std.specs.List.{list_any, IsDistinct}
+use Rattle.std.specs.List.{list_any, IsDistinct, sum_by}
 use Rattle.std.proofs.lemmas.Bool.{true≢false, or_parts}
 use Rattle.std.proofs.lemmas.List.{map-append, get_or_default}
 use Rattle.std.proofs.lemmas.List.Elements.{filter-append}
 use Rattle.mps_reader.specs.MpsLines.{Line, Entry, field, takes_value, bound_has_set, bound_text, is_free, kept_rows, is_marker, is_kept, set_of, set_entries, column_entries, is_data_of, data_of, starts_column, in_integer_part, integer_names, column_names, entries_of, sets_of, bound_column, is_one_of, last_of, headers_of}
 use Rattle.mps_reader.specs.MpsRules.{or_else, first_kind, number_kind, is_second, bound_fits, is_nonzero, term_count, data_kind, header_kind, direction_kind, row_kind, column_kind, rhs_kind, range_kind, bound_kind}
-use Rattle.mps_reader.specs.MpsModels.{given, bound_lines}
+use Rattle.mps_reader.specs.MpsModels.{given, bound_lines, low_set, high_set, number_or_zero}
 use Rattle.mps_reader.specs.TakenLines.{IsHeaderWith, IsDataWith}
 use Rattle.mps_reader.specs.Sections.{word_of, words_of}
 use Rattle.mps_reader.specs.Openings.{HeadersAgree}
@@ -20,9 +20,9 @@ use Rattle.mps_reader.specs.ColumnTables.{with_bound}
 use Rattle.mps_reader.specs.Tables.{IsTable, IsAlong, texts_of}
 use Rattle.mps_reader.specs.SideNumbers.{ignores, side_of, other_of, IsSameBesides}
 use Rattle.mps_reader.specs.ColumnNumbers.{is_unread, is_column}
-use Rattle.mps_reader.specs.RowStates.{HasRole, HasSide, HasLast, RowsAgree, SideAgrees, EntriesAgree, is_given, is_entry}
+use Rattle.mps_reader.specs.RowStates.{HasRole, HasSide, HasLast, RowsAgree, SideAgrees, EntriesAgree, is_given, is_entry, terms_for, term_weight}
 use Rattle.mps_reader.specs.SideSteps.{SideThen}
-use Rattle.mps_reader.specs.ColumnStates.{ColumnsReady, ColumnsAgree, HasColumn}
+use Rattle.mps_reader.specs.ColumnStates.{ColumnsReady, ColumnsAgree, HasColumn, IsLimited}
 use Rattle.mps_reader.specs.ColumnSteps.{HasSameSides, HasSameBounds, AddsColumn, AreGrown, ColumnThen}
 use Rattle.mps_reader.specs.Drafts.{Agrees, IsLineBehind, IsTaken, is_ended, section_behind}
 use Rattle.mps_reader.specs.declared.draft.Progress.{Progress}
@@ -41,10 +41,10 @@ use Rattle.mps_reader.specs.declared.sides.Side.{Side}
 use Rattle.mps_reader.specs.declared.sides.Side.TheVariants.{Rhs, Range}
 use Rattle.mps_reader.proofs.OpeningLemmas.{bytes_eq-refl, bytes_eq-sym, or-true, or-false, list_any-append, none_when}
 use Rattle.mps_reader.proofs.BoundLemmas.{bound_added, data_then}
-use Rattle.mps_reader.proofs.TableLemmas.{table_get, table_set, table_push, table_along, place_has}
+use Rattle.mps_reader.proofs.TableLemmas.{table_get, table_set, table_push, table_along, place_has, sums_along}
 use Rattle.mps_reader.proofs.EntryLemmas.{given_some}
 use Rattle.std.specs.List.{position_or_len}
-use Rattle.std.proofs.lemmas.List.Sums.{sum_by-cons}
+use Rattle.std.proofs.lemmas.List.Sums.{sum_by-cons, sum_by_push}
 use Rattle.std.proofs.lemmas.Bool.{lt-ltb}
 use Rattle.mps_reader.proofs.RoleLemmas.{role_other, role_new, free_other, kept_other, kept_then, names_row, senses_pushed}
 use Rattle.mps_reader.proofs.SideLemmas.{placed, differs, rows_along}
@@ -52,6 +52,9 @@ use Rattle.mps_reader.proofs.TermLemmas.{roles_along}
 use Rattle.mps_reader.proofs.ColumnLemmas.{distinct_push, integers_then, absent_before}
 use Rattle.mps_reader.proofs.FrameLemmas.{elsewhere, header_out, other_out, ready_same, roles_same, entries_same, bounds_same, integers_out, heads_out, opening_out}
 use Rattle.mps_reader.proofs.TermLists.{terms_none, zero_in}
+use Rattle.mps_reader.proofs.LimitLemmas.{number_limit, unset_limit, later_limit, low_limited, high_limited}
+use Rattle.mps_reader.specs.declared.row_draft.RowRole.{RowRole}
+use Rattle.mps_reader.specs.declared.row_draft.RowRole.TheVariants.{Objective, Dropped, Kept}
 
 -- the entries and sets of another section stay
 module _ (ls : List Line) (l : Line) where
@@ -163,6 +166,11 @@ direction_agrees d headers ls l words taken opens a = opening_taken d headers ls
 abbrev weight : Bool → ℕ
 weight b = cond b 1 0
 
+no_weight : (R : RowRole) (ts : List (ℕ × ℤ)) → ts ≡ [] → terms_for R ts ≡ 0
+no_weight Objective ts e = refl
+no_weight Dropped ts e = refl
+no_weight (Kept s) ts e = ap length e
+
 given_none : (es : List Entry) (o n : List ℕ) → is_given es o n ≡ false → given es o n ≡ None
 given_none es o n e = none_when (given es o n) (given_some es o n ∙ e)
 
@@ -215,6 +223,7 @@ module _ (names : List (List ℕ)) (rows : List RowDraft) (row : RowDraft) (ls :
     counted = a.counted ∙ sym (terms_known es (λ o. a.rows_known (field 1 l) absent o));
     few = a.few;
     apart = a.apart;
+    total = sum_by_push term_weight rows row ∙ ap (λ w. sum_by term_weight rows + w) (no_weight row.role row.terms.items begun.terms) ∙ add-zero (sum_by term_weight rows) ∙ a.total;
   }
     where
       none_some : (k : ℕ) → None ≡ Some k → ⊥
@@ -268,6 +277,7 @@ numbers_along side names columns old new count ls es along a = record {
   counted = a.counted;
   few = a.few;
   apart = a.apart;
+  total = sums_along (IsSameBesides side) term_weight old new (λ x y r. ap (λ R. terms_for R y.terms.items) r.role ∙ ap (λ v. terms_for x.role v.items) r.terms) along ∙ a.total;
 }
 
 ready_moved : (keys new_keys : List (Bor (List ℕ))) (kept new_kept : ℕ) (has new_has : Bool) (ls : List Line) → new_keys ≡ keys → new_kept ≡ kept → new_has ≡ has → RowsReady keys kept has ls → RowsReady new_keys new_kept new_has ls
@@ -344,12 +354,16 @@ module _ (ls : List Line) (l : Line) (words : List (List ℕ)) (taken : IsDataWi
             (record {
               named = p.begun.named;
               bounds = subst (λ (lines : List Line). BoundsAgree p.column.bounds lines) (sym (ap (λ f. f name) bounds_out ∙ a.bounds_known name p.absent)) p.begun.bounds;
+              low_limit = unset_limit p.column.bounds.low p.begun.bounds.low;
+              high_limit = unset_limit p.column.bounds.high p.begun.bounds.high;
               marked = p.begun.marked ∙ inside ∙ sym (ap (λ i. is_one_of i name) integers ∙ own (in_integer_part ls) (integer_names ls) (a.marks_known name p.absent));
             })
             (λ n c other h. record {
               named = h.named;
               bounds = subst (λ (lines : List Line). BoundsAgree c.bounds lines) (sym (ap (λ f. f n) bounds_out)) h.bounds;
               marked = h.marked ∙ sym (others n other);
+              low_limit = h.low_limit;
+              high_limit = h.high_limit;
             });
         bounds_known = λ n out. ap (λ f. f n) bounds_out ∙ a.bounds_known n (absent_before names name n out);
         marks_known = λ n out. others n (pushed_differs n out) ∙ a.marks_known n (absent_before names name n out);
@@ -370,6 +384,8 @@ module _ (ls : List Line) (l : Line) (words : List (List ℕ)) (taken : IsDataWi
               named = r.name ∙ h.named;
               bounds = subst (λ (b : Bounds). BoundsAgree b (bound_lines (ls ++ l ∷ []) n)) (sym r.bounds) h.bounds;
               marked = r.marked ∙ h.marked;
+              low_limit = subst (λ (b : Bounds). IsLimited b.low) (sym r.bounds) h.low_limit;
+              high_limit = subst (λ (b : Bounds). IsLimited b.high) (sym r.bounds) h.high_limit;
             }) g.along m.known;
         bounds_known = m.bounds_known;
         marks_known = m.marks_known;
@@ -418,11 +434,24 @@ known_b false false true o e = refl
 pub known_column : (ls : List Line) (l : Line) → bound_kind ls l ≡ None → is_one_of (column_names ls) (bound_column l) ≡ true
 known_column ls l e = known_b (not (bound_fits l)) (bound_has_set l && is_second (sets_of (codes "BOUNDS") ls) (field 1 l)) (is_one_of (column_names ls) (bound_column l)) (if takes_value (field 0 l) then number_kind (10 ^ 6) (bound_text l) else None) e
 
+-- ---- limits
+
+or_else_none : (o p : Option MpsKind) → or_else o p ≡ None → p ≡ None
+or_else_none None p e = e
+or_else_none (Some k) p e = absurd (cc)
+
+value_b : (b : Bool) (o : Option MpsKind) → (if b then o else None) ≡ None → b ≡ true → o ≡ None
+value_b true o e is = e
+value_b false o e is = absurd (true≢false (sym is))
+
+bound_limit : (ls : List Line) (l : Line) → bound_kind ls l ≡ None → takes_value (field 0 l) ≡ true → unsigned_abs (number_or_zero (bound_text l)) ≤ 1000000
+bound_limit ls l good is = number_limit 1000000 (bound_text l) (value_b (takes_value (field 0 l)) (number_kind (10 ^ 6) (bound_text l)) (or_else_none (first_kind ((not (bound_fits l), Fields) ∷ (bound_has_set l && is_second (sets_of (codes "BOUNDS") ls) (field 1 l), SecondSet) ∷ (not (is_one_of (column_names ls) (bound_column l)), UnknownColumn) ∷ [])) (if takes_value (field 0 l) then number_kind (10 ^ 6) (bound_text l) else None) good) is)
+
 bound_lines_then : (ls : List Line) (l : Line) (words : List (List ℕ)) (n : List ℕ) → IsDataWith (codes "BOUNDS") l words → bound_lines (ls ++ l ∷ []) n ≡ bound_lines ls n ++ cond (bytes_eq (bound_column l) n) (l ∷ []) []
 bound_lines_then ls l words n taken = ap (filter (λ k. bytes_eq (bound_column k) n)) (data_then (codes "BOUNDS") ls l words taken) ∙ filter-append (λ k. bytes_eq (bound_column k) n) (data_of (codes "BOUNDS") ls) (l ∷ [])
 
-bounds_written : (names : List (List ℕ)) (columns : List ColumnDraft) (k : ℕ) (c : ColumnDraft) (ls : List Line) (l : Line) (words : List (List ℕ)) → IsDataWith (codes "BOUNDS") l words → IsDistinct bytes_eq names → position (bytes_eq (bound_column l)) names ≡ Some k → c ≡ slice_index_or columns k c → ColumnsAgree names columns ls → ColumnsAgree names (slice_set columns k (with_bound c l)) (ls ++ l ∷ [])
-bounds_written names columns k c ls l words taken distinct at read a =
+bounds_written : (names : List (List ℕ)) (columns : List ColumnDraft) (k : ℕ) (c : ColumnDraft) (ls : List Line) (l : Line) (words : List (List ℕ)) → IsDataWith (codes "BOUNDS") l words → IsDistinct bytes_eq names → position (bytes_eq (bound_column l)) names ≡ Some k → c ≡ slice_index_or columns k c → (takes_value (field 0 l) ≡ true → unsigned_abs (number_or_zero (bound_text l)) ≤ 1000000) → ColumnsAgree names columns ls → ColumnsAgree names (slice_set columns k (with_bound c l)) (ls ++ l ∷ [])
+bounds_written names columns k c ls l words taken distinct at read limit a =
     let col : List ℕ = bound_column l in
     let integers : integer_names (ls ++ l ∷ []) ≡ integer_names ls = integers_out ls l (other_out (codes "COLUMNS") (codes "BOUNDS") l words taken refl) in
     let others : (n : List ℕ) → bytes_eq col n ≡ false → bound_lines (ls ++ l ∷ []) n ≡ bound_lines ls n = λ n other. bound_lines_then ls l words n taken ∙ ap (λ b. bound_lines ls n ++ cond b (l ∷ []) []) other ∙ append-nil (bound_lines ls n) in
@@ -433,11 +462,15 @@ bounds_written names columns k c ls l words taken distinct at read a =
             named = old.named;
             bounds = subst (λ (lines : List Line). BoundsAgree (with_line c.bounds l) lines) (sym own) (bound_added c.bounds (bound_lines ls col) l old.bounds);
             marked = old.marked ∙ sym (ap (λ i. is_one_of i col) integers);
+            low_limit = later_limit c.bounds.low (low_set l) old.low_limit (low_limited l limit);
+            high_limit = later_limit c.bounds.high (high_set l) old.high_limit (high_limited l limit);
           })
           (λ n x other h. record {
             named = h.named;
             bounds = subst (λ (lines : List Line). BoundsAgree x.bounds lines) (sym (others n other)) h.bounds;
             marked = h.marked ∙ sym (ap (λ i. is_one_of i n) integers);
+            low_limit = h.low_limit;
+            high_limit = h.high_limit;
           });
       bounds_known = λ n out. others n (differs names col n (placed names col k at) out) ∙ a.bounds_known n out;
       marks_known = λ n out. ap (λ i. is_one_of i n) integers ∙ a.marks_known n out;
@@ -453,7 +486,7 @@ bounds_taken d columns set ls l words taken same current part entries good sets 
     let k : ℕ = position_or_len (bytes_eq (bound_column l)) (column_names ls) in
     let at : position (bytes_eq (bound_column l)) (column_names ls) ≡ Some k = place_of (bytes_eq (bound_column l)) (column_names ls) (known_column ls l good) in
     let here : position (bytes_eq (bound_column l)) (column_texts d) ≡ Some k = ap (position (bytes_eq (bound_column l))) a.heads.called ∙ at in
-    let items : ColumnsAgree (column_texts d) columns.table.items.items (ls ++ l ∷ []) = bounds_changed d columns ls l words k taken here (λ c. written k c at) a in record {
+    let items : ColumnsAgree (column_texts d) columns.table.items.items (ls ++ l ∷ []) = bounds_changed d columns ls l words k taken here (λ c. written k c at) (bound_limit ls l good) a in record {
       opening = opening_out d.headers ls l (codes "BOUNDS") words taken refl a.opening;
       ready = ready_stays d ls l a out;
       roles = roles_stay d ls l a out;
@@ -470,17 +503,17 @@ bounds_taken d columns set ls l words taken same current part entries good sets 
       bound_sets = sets;
     }
   where
-    changed : (old new : List ColumnDraft) (names : List (List ℕ)) (ls : List Line) (l : Line) (words : List (List ℕ)) (k : ℕ) → IsDataWith (codes "BOUNDS") l words → k < length old → IsDistinct bytes_eq names → position (bytes_eq (bound_column l)) names ≡ Some k → ((c : ColumnDraft) → new ≡ slice_set old k (with_bound (slice_index_or old k c) l)) → ColumnsAgree names old ls → ColumnsAgree names new (ls ++ l ∷ [])
-    changed [] new names ls l words k taken h distinct at written a = absurd (omega arith)
-    changed (x ∷ old) new names ls l words k taken h distinct at written a =
+    changed : (old new : List ColumnDraft) (names : List (List ℕ)) (ls : List Line) (l : Line) (words : List (List ℕ)) (k : ℕ) → IsDataWith (codes "BOUNDS") l words → k < length old → IsDistinct bytes_eq names → position (bytes_eq (bound_column l)) names ≡ Some k → ((c : ColumnDraft) → new ≡ slice_set old k (with_bound (slice_index_or old k c) l)) → (takes_value (field 0 l) ≡ true → unsigned_abs (number_or_zero (bound_text l)) ≤ 1000000) → ColumnsAgree names old ls → ColumnsAgree names new (ls ++ l ∷ [])
+    changed [] new names ls l words k taken h distinct at written limit a = absurd (omega arith)
+    changed (x ∷ old) new names ls l words k taken h distinct at written limit a =
         let c : ColumnDraft = slice_index_or (x ∷ old) k x in
-        subst (λ (cs : List ColumnDraft). ColumnsAgree names cs (ls ++ l ∷ [])) (sym (written x)) (bounds_written names (x ∷ old) k c ls l words taken distinct at (get_or_default (x ∷ old) k x c h) a)
+        subst (λ (cs : List ColumnDraft). ColumnsAgree names cs (ls ++ l ∷ [])) (sym (written x)) (bounds_written names (x ∷ old) k c ls l words taken distinct at (get_or_default (x ∷ old) k x c h) limit a)
 
-    bounds_changed : (d : Draft) (columns : Columns) (ls : List Line) (l : Line) (words : List (List ℕ)) (k : ℕ) → IsDataWith (codes "BOUNDS") l words → position (bytes_eq (bound_column l)) (column_texts d) ≡ Some k → ((c : ColumnDraft) → columns.table.items.items ≡ slice_set (column_items d) k (with_bound (slice_index_or (column_items d) k c) l)) → Agrees d ls → ColumnsAgree (column_texts d) columns.table.items.items (ls ++ l ∷ [])
-    bounds_changed d columns ls l words k taken at written a =
+    bounds_changed : (d : Draft) (columns : Columns) (ls : List Line) (l : Line) (words : List (List ℕ)) (k : ℕ) → IsDataWith (codes "BOUNDS") l words → position (bytes_eq (bound_column l)) (column_texts d) ≡ Some k → ((c : ColumnDraft) → columns.table.items.items ≡ slice_set (column_items d) k (with_bound (slice_index_or (column_items d) k c) l)) → (takes_value (field 0 l) ≡ true → unsigned_abs (number_or_zero (bound_text l)) ≤ 1000000) → Agrees d ls → ColumnsAgree (column_texts d) columns.table.items.items (ls ++ l ∷ [])
+    bounds_changed d columns ls l words k taken at written limit a =
         let found = place_has (column_texts d) (bound_column l) k at in
         let within : k < length (column_items d) = omega (arith, a.bounds.known.size, found.0) in
-        changed (column_items d) columns.table.items.items (column_texts d) ls l words k taken within a.heads.distinct at written a.bounds
+        changed (column_items d) columns.table.items.items (column_texts d) ls l words k taken within a.heads.distinct at written limit a.bounds
 
 -- ---- a new draft
 
@@ -505,7 +538,7 @@ new_agrees d opens rows keys kept has columns column_keys part current entries r
       ranges = record { sides = empty_table (HasSide Range []) (row_texts d) (row_items d) names rows; known = λ n out o. refl };
       heads = record { called = column_names_are; distinct = no_columns; goes_on = no_current; last = λ o e. absurd (none_some o (sym no_current ∙ e)); inside = part };
       bounds = record { known = empty_table (HasColumn []) (column_texts d) (column_items d) column_names_are columns; bounds_known = λ n out. refl; marks_known = λ n out. refl };
-      numbers = record { last = empty_table (HasLast (column_texts d) []) (row_texts d) (row_items d) names rows; rows_known = λ n out o. refl; owners_known = λ o out n. refl; counted = entries; few = omega (arith, entries); apart = no_columns };
+      numbers = record { last = empty_table (HasLast (column_texts d) []) (row_texts d) (row_items d) names rows; rows_known = λ n out o. refl; owners_known = λ o out n. refl; counted = entries; few = omega (arith, entries); apart = no_columns; total = ap (sum_by term_weight) rows ∙ sym entries };
       rhs_sets = rhs;
       range_sets = range;
       bound_sets = bound;

@@ -74,6 +74,7 @@ module _ (ls ks : List Line) where
       counted = a.counted ∙ sym (terms_same es);
       few = a.few;
       apart = a.apart;
+      total = a.total;
     }
 
   pub bounds_same : (names : List (List ℕ)) (columns : List ColumnDraft) → data_of (codes "BOUNDS") ks ≡ data_of (codes "BOUNDS") ls → integer_names ks ≡ integer_names ls → ColumnsAgree names columns ls → ColumnsAgree names columns ks
@@ -83,6 +84,8 @@ module _ (ls ks : List Line) where
           named = h.named;
           bounds = subst (λ (lines : List Line). BoundsAgree c.bounds lines) (sym (lines_same n)) h.bounds;
           marked = h.marked ∙ sym (ap (λ i. is_one_of i n) f);
+          low_limit = h.low_limit;
+          high_limit = h.high_limit;
         }) a.known;
     bounds_known = λ n absent. lines_same n ∙ a.bounds_known n absent;
     marks_known = λ n absent. ap (λ i. is_one_of i n) f ∙ a.marks_known n absent;

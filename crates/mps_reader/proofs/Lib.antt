@@ -14,8 +14,10 @@ pub mod FieldLists
 pub mod SideLemmas
 pub mod TermLemmas
 pub mod ColumnLemmas
+pub mod LimitLemmas
 pub mod FrameLemmas
 pub mod DraftLemmas
 pub mod ReadingLemmas
 pub mod MadeLemmas
 pub mod ModelLemmas
+pub mod RefusalLemmas

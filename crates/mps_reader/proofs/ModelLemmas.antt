@@ -81,7 +81,7 @@ rows_made ls (l ∷ L) (r ∷ D) names senses facts =
 -- ---- the objective
 
 module _ {X : Type 0} where
-  last_with : (o : Option X) (xs : List X) → last_of (cons_option o xs) ≡ last_setting o (last_of xs)
+  pub last_with : (o : Option X) (xs : List X) → last_of (cons_option o xs) ≡ last_setting o (last_of xs)
   last_with None xs = none_last (last_of xs)
     where
       none_last : (o : Option X) → o ≡ last_setting None o
@@ -181,7 +181,7 @@ module _ (names : List (List ℕ)) (D : List RowDraft) (ls : List Line) (columns
   pub costs_are : unwrap_or (last_of (filter_map costs_made D)) [] ≡ costs_from 0 ls columns
   costs_are = costs_b (free_rows ls) refl
 
-  row_facts : SideAgrees Range names D (entries_of (codes "RANGES") ls) → columns ≡ column_names ls → All (RowFacts ls) D
+  pub row_facts : SideAgrees Range names D (entries_of (codes "RANGES") ls) → columns ≡ column_names ls → All (RowFacts ls) D
   row_facts ranges called = λ k d h.
       let named : (get_or D k d).name ≡ get_or names k [] = (roles.roles.each k [] d h).named in record {
         rhs = λ kept. sides.sides.each k [] d h (kept_rhs (get_or D k d).role kept) ∙ ap (given (entries_of (codes "RHS") ls) []) (sym named);
@@ -204,7 +204,7 @@ module _ (names : List (List ℕ)) (D : List RowDraft) (ls : List Line) (columns
       kept_terms Dropped e = absurd (true≢false (sym e))
       kept_terms (Kept s) e = refl
 
-  named_rows : (D : List RowDraft) → IsTable (HasRole ls) names D → map (λ r. r.name) D ≡ names
+  pub named_rows : (D : List RowDraft) → IsTable (HasRole ls) names D → map (λ r. r.name) D ≡ names
   named_rows [] t = sym (nil_from_length names (sym t.size))
   named_rows (r ∷ D) t = same_lists (map (λ r. r.name) (r ∷ D)) names (length-map (r ∷ D) (λ x. x.name) ∙ t.size)
       (λ k d h.

@@ -1,5 +1,5 @@
 -- What the rest of a text makes, line by line.
-use Rattle.std.proofs.Common.{◌≡◌, ◌∙◌, ap, sym, subst, ℕ, ◌+◌, Bool, true, false, cond, List, [], ◌∷◌, ◌++◌, length, Option, Some, None, Result, Ok, Err, refl, arith, append-nil}
+use Rattle.std.proofs.Common.{◌≡◌, ◌∙◌, ap, sym, subst, ℕ, ◌+◌, Bool, true, false, cond, List, [], ◌∷◌, ◌++◌, length, Option, Some, None, Result, Ok, Err, refl, arith, append-nil, ◌≤◌}
 use Rattle.std.specs.Prelude.{filter, unwrap_or, slice_index_or, if◌then◌else◌, bytes_eq, codes}
 use Rattle.std.specs.List.{enumerate_from}
 use Rattle.num_text.specs.Lines.{lines_of, fields_of}
@@ -8,19 +8,20 @@ use Rattle.mps_reader.specs.MpsRules.{line_kind, direction_words}
 use Rattle.mps_reader.specs.MpsModels.{model_of, model_of_lines, model_from, by_kind, at_its_end, is_end, end_kind}
 use Rattle.mps_reader.specs.Drafts.{Agrees, IsLineBehind, section_behind, HasParts}
 use Rattle.mps_reader.specs.Readings.{IsReading, lines_behind}
-use Rattle.std.specs.Result.{IfOk}
+use Rattle.std.specs.Result.{IfOk, IfErr}
 use Rattle.std.proofs.lemmas.Bool.{and_parts}
 use Rattle.std.proofs.lemmas.Slice.Eq.{bytes_eq-Decides}
 use Rattle.mps_reader.specs.Openings.{direction_of}
 use Rattle.mps_reader.specs.declared.rows.Rows.{Rows}
 use Rattle.mps_reader.specs.Faults.{IsFault}
-use Rattle.mps_reader.specs.Endings.{IsRefusedWith, error_at}
+use Rattle.mps_reader.specs.Endings.{IsRefusedWith, error_at, IsErrorOf, IsErrorAt}
 use Rattle.mps_reader.specs.Tables.{texts_of}
 use Rattle.mps_reader.specs.ColumnStates.{ColumnsAgree}
 use Rattle.mps_reader.specs.declared.columns.Columns.{Columns}
 use Rattle.mps_reader.specs.declared.fault.Fault.{Fault}
 use Rattle.mps_reader.specs.declared.fault.Fault.TheVariants as fault
 use Rattle.mps_reader.specs.declared.MpsError.{MpsError}
+use Rattle.mps_reader.specs.declared.MpsError.TheVariants as refused
 use Rattle.mps_reader.specs.declared.draft.Draft.{Draft}
 use Rattle.mps_reader.specs.declared.MpsKind.{MpsKind}
 use Rattle.mps_reader.specs.declared.MpsKind.TheVariants.{NoEnd}
@@ -160,4 +161,29 @@ parts_before old new earlier l rows columns ends a b =
       bounds = a.bounds;
       numbers = a.numbers;
       direction = b.opening.direction ∙ ap direction_of (direction_words-append earlier (l ∷ []) ∙ ap (λ r. direction_words earlier ++ r) (end_word l ends) ∙ append-nil (direction_words earlier));
+      few_rows = subst (λ (n : ℕ). n ≤ 1000) a.ready.kept old.rows.few;
     }))
+
+-- ---- errors
+
+pub error_there : (line : ℕ) (f : Fault) (x : MpsError) (o : Option MpsKind) (m : Result IntegerModel (ℕ × MpsKind)) → x ≡ error_at line f → IsFault f o → ((kind : MpsKind) → o ≡ Some kind → m ≡ Err (line, kind)) → IsErrorOf m x
+error_there line (fault.Refused k) x o m e h makes = subst (λ (y : MpsError). IsErrorOf m y) (sym e) (makes k h)
+error_there line fault.Memory x o m e h makes = subst (λ (y : MpsError). IsErrorOf m y) (sym e) tt
+
+pub error_from : (line : ℕ) (f : Fault) (x : MpsError) (o : Option MpsKind) → x ≡ error_at line f → IsFault f o → IsErrorAt line o x
+error_from line (fault.Refused k) x o e h = subst (λ (y : MpsError). IsErrorAt line o y) (sym e) (refl, h)
+error_from line fault.Memory x o e h = subst (λ (y : MpsError). IsErrorAt line o y) (sym e) tt
+
+end_refused : (earlier : List Line) (l : Line) (o : Option MpsKind) (kind : MpsKind) → o ≡ Some kind → at_its_end earlier l o ≡ Err (l.number, kind)
+end_refused earlier l o kind e = ap (at_its_end earlier l) e
+
+error_b : (earlier : List Line) (l : Line) (m : Result IntegerModel (ℕ × MpsKind)) (error : MpsError) → m ≡ at_its_end earlier l (end_kind earlier (column_names earlier)) → IsErrorAt l.number (end_kind earlier (column_names earlier)) error → IsErrorOf m error
+error_b earlier l m (refused.Line line kind) ends h = ends ∙ end_refused earlier l (end_kind earlier (column_names earlier)) kind h.1 ∙ ap (λ n. refused_text n kind) (sym h.0)
+  where
+    refused_text : ℕ → MpsKind → Result IntegerModel (ℕ × MpsKind)
+    refused_text n kind = Err (n, kind)
+error_b earlier l m refused.Memory ends h = tt
+
+pub error_at_end : (earlier : List Line) (l : Line) (m : Result IntegerModel (ℕ × MpsKind)) (result : Result IntegerModel MpsError) → m ≡ at_its_end earlier l (end_kind earlier (column_names earlier)) → IfErr result (λ error. IsErrorAt l.number (end_kind earlier (column_names earlier)) error) → IfErr result (λ error. IsErrorOf m error)
+error_at_end earlier l m (Ok model) ends h = tt
+error_at_end earlier l m (Err error) ends h = error_b earlier l m error ends h

@@ -1,7 +1,7 @@
 -- How items and their names go on: a write, one more, and a change of what is said of them.
 use Rattle.std.proofs.Common.{◌≡◌, ◌≢◌, ◌∙◌, ap, sym, subst, ℕ, ◌<◌, ◌+◌, Bool, false, List, [], ◌∷◌, ◌++◌, length, get_or, set, Some, arith, inl, inr, zero, suc, map, refl}
 use Rattle.std.specs.Prelude.{bytes_eq}
-use Rattle.std.specs.List.{list_any, position, IsDistinct}
+use Rattle.std.specs.List.{list_any, position, IsDistinct, sum_by}
 use Rattle.std.proofs.lemmas.Bool.{cases_eq, cases_lt, cases_order, or_parts}
 use Rattle.std.proofs.lemmas.Slice.Eq.{bytes_eq-Decides}
 use Rattle.std.proofs.lemmas.List.{length-set, length_push, get_or-set_same, get_or-set_other, get_or_default, get_or_append_left, get_or_push}
@@ -10,6 +10,7 @@ use Rattle.std.proofs.lemmas.Map.Keys.{apart_from_distinct}
 use Rattle.mps_reader.specs.MpsLines.{is_one_of}
 use Rattle.mps_reader.specs.Tables.{IsTable, IsAlong}
 use Rattle.mps_reader.proofs.OpeningLemmas.{bytes_eq-sym}
+use Rattle.std.proofs.lemmas.List.Sums.{sum_by-cons}
 
 pub none_passes : {X : Type 0} (p : X → Bool) (xs : List X) (k : ℕ) (d : X) → list_any p xs ≡ false → k < length xs → p (get_or xs k d) ≡ false
 none_passes p [] k d none h = absurd (omega arith)
@@ -113,6 +114,15 @@ module _ {X : Type 0} where
       let size : length (y ∷ new) ≡ length (x ∷ old) = along.size in
       let rest : IsAlong R old new = record { size = omega (arith, size); each = λ j d h. along.each (suc j) d (omega (arith, h)) } in
       ap (λ z. z ∷ map f new) (same x y (along.each 0 x (omega arith))) ∙ ap (λ r. f x ∷ r) (map_along R f old new same rest)
+
+  pub sums_along : (R : X → X → Type 0) (f : X → ℕ) (old new : List X) → ((x y : X) → R x y → f y ≡ f x) → IsAlong R old new → sum_by f new ≡ sum_by f old
+  sums_along R f [] [] same along = refl
+  sums_along R f [] (y ∷ new) same along = let h : length (y ∷ new) ≡ 0 = along.size in absurd (omega (arith, h))
+  sums_along R f (x ∷ old) [] same along = let h : 0 ≡ length (x ∷ old) = along.size in absurd (omega (arith, h))
+  sums_along R f (x ∷ old) (y ∷ new) same along =
+      let size : length (y ∷ new) ≡ length (x ∷ old) = along.size in
+      let rest : IsAlong R old new = record { size = omega (arith, size); each = λ j d h. along.each (suc j) d (omega (arith, h)) } in
+      sum_by-cons f y new ∙ ap (λ n. n + sum_by f new) (same x y (along.each 0 x (omega arith))) ∙ ap (λ n. f x + n) (sums_along R f old new same rest) ∙ sym (sum_by-cons f x old)
 
   pub along_both : (R : X → X → Type 0) (one two three : List X) → ((x y z : X) → R x y → R y z → R x z) → IsAlong R one two → IsAlong R two three → IsAlong R one three
   along_both R one two three chain a b = record {

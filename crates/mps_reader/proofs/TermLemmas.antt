@@ -1,17 +1,17 @@
 -- What a pair of COLUMNS does to the rows.
-use Rattle.std.proofs.Common.{◌≡◌, ◌∙◌, ap, sym, subst, ℕ, ℤ, pos, ◌+◌, ◌-◌, ◌<◌, ◌≤◌, Bool, true, false, ◌||◌, ◌&&◌, not, cond, nat_lt, nat_le, unsigned_abs, List, [], ◌∷◌, ◌++◌, length, get_or, set, Option, Some, None, refl, arith, Bor, inl, inr, FitsSigned, w64, of_z, to_z, append-nil}
+use Rattle.std.proofs.Common.{◌≡◌, ◌∙◌, ap, sym, subst, ℕ, ℤ, pos, ◌+◌, ◌-◌, ◌<◌, ◌≤◌, Bool, true, false, ◌||◌, ◌&&◌, not, cond, nat_lt, nat_le, unsigned_abs, List, [], ◌∷◌, ◌++◌, length, get_or, set, Option, Some, None, refl, arith, Bor, inl, inr, FitsSigned, w64, of_z, to_z, append-nil, add-zero}
 use Rattle.std.specs.Prelude.{IfSome, bytes_eq, if◌then◌else◌, ◌^◌, unwrap_or}
-use Rattle.std.specs.List.{position}
+use Rattle.std.specs.List.{position, sum_by}
 use Rattle.std.proofs.lemmas.Bool.{true≢false, and_left, and_right, cases_lt, lt-ltb, le-ltb, le-leb, lt-leb, eq-eqb, leb-false}
-use Rattle.std.proofs.lemmas.List.{append_assoc}
+use Rattle.std.proofs.lemmas.List.{append_assoc, length_push}
 use Rattle.std.proofs.lemmas.Int.{ints, to_z-of_z}
 use Rattle.mps_reader.specs.MpsLines.{Line, Entry, is_dropped, is_kept, is_objective, is_one_of, last_of}
 use Rattle.mps_reader.specs.MpsRules.{is_row, or_else, first_kind, number_kind, is_nonzero, term_kind, term_count, entries_kind}
 use Rattle.mps_reader.specs.MpsModels.{number_or_zero}
 use Rattle.mps_reader.specs.Faults.{IsFault}
-use Rattle.mps_reader.specs.Tables.{IsAlong, texts_of}
+use Rattle.mps_reader.specs.Tables.{IsAlong, texts_of, IsTable}
 use Rattle.mps_reader.specs.ColumnNumbers.{makes_term, is_unread, is_column, number_for_kind}
-use Rattle.mps_reader.specs.RowStates.{HasRole, HasLast, RowsAgree, EntriesAgree, entry_with, is_given, is_objective_role}
+use Rattle.mps_reader.specs.RowStates.{HasRole, HasLast, RowsAgree, EntriesAgree, entry_with, is_given, is_objective_role, terms_for, term_weight}
 use Rattle.mps_reader.specs.ColumnSteps.{HasSameSides, TakesTerms, RefusesTerms}
 use Rattle.mps_reader.specs.declared.row_draft.RowDraft.{RowDraft}
 use Rattle.mps_reader.specs.declared.row_draft.RowRole.{RowRole}
@@ -21,12 +21,13 @@ use Rattle.mps_reader.specs.declared.fault.Fault.TheVariants.{Refused, Memory}
 use Rattle.mps_reader.specs.declared.MpsKind.{MpsKind}
 use Rattle.mps_reader.specs.declared.MpsKind.TheVariants.{Duplicate, UnknownRow, TooMany}
 use Rattle.mps_reader.proofs.OpeningLemmas.{or-true, last_in}
-use Rattle.mps_reader.proofs.TableLemmas.{table_get, table_set, table_along, map_along}
+use Rattle.mps_reader.proofs.TableLemmas.{table_get, table_set, table_along, map_along, place_has}
 use Rattle.mps_reader.proofs.EntryLemmas.{one_kind, first_entry, next_entry, entry_other, entry_own, given_other, is_given-push, term_added, nonzero_is, number_other}
 use Rattle.mps_reader.proofs.RoleLemmas.{is_row-names}
 use Rattle.mps_reader.proofs.SideLemmas.{placed, differs, role_as}
 use Rattle.mps_reader.specs.RowTables.{sense_with}
 use Rattle.mps_reader.proofs.TermLists.{terms_added, terms_same}
+use Rattle.std.proofs.lemmas.List.Sums.{sum_by-set}
 
 -- ---- the kind
 
@@ -82,6 +83,20 @@ room_of (Kept s) G false count o few e = omega arith
 room_of (Kept s) G true count o few e =
     let less : count < 100000 = leb-false 100000 count (many_none (nat_le 100000 count) (or_else (first_kind ((G, Duplicate) ∷ [])) o) e) in
     omega arith
+
+weight_then : (R : RowRole) (Z : Bool) (ts us : List (ℕ × ℤ)) (t : ℕ × ℤ) → (is_unread R ≡ false → us ≡ ts ++ cond Z (t ∷ []) []) → terms_for R us ≡ terms_for R ts + cond (makes_term R && Z) 1 0
+weight_then Objective Z ts us t listed = omega arith
+weight_then Dropped Z ts us t listed = omega arith
+weight_then (Kept s) true ts us t listed = ap length (listed refl) ∙ length_push ts t
+weight_then (Kept s) false ts us t listed = ap length (listed refl ∙ append-nil ts) ∙ sym (add-zero (length ts))
+
+weight_set : (names : List (List ℕ)) (old : List RowDraft) (k : ℕ) (r new : RowDraft) (count new_count : ℕ) (Z : Bool) (t : ℕ × ℤ) (n : List ℕ) {Q : List ℕ → RowDraft → Type 0} → position (bytes_eq n) names ≡ Some k → IsTable Q names old → r ≡ get_or old k r → new.role ≡ r.role → sum_by term_weight old ≡ count → new_count ≡ count + cond (makes_term r.role && Z) 1 0 → (is_unread r.role ≡ false → new.terms.items ≡ r.terms.items ++ cond Z (t ∷ []) []) → sum_by term_weight (set old k new) ≡ new_count
+weight_set names old k r new count new_count Z t n at table read role total counts listed =
+    let within : k < length old = omega (arith, table.size, (place_has names n k at).0) in
+    let sums : sum_by term_weight (set old k new) + term_weight (get_or old k r) ≡ sum_by term_weight old + term_weight new = sum_by-set term_weight old k new r within in
+    let before : term_weight (get_or old k r) ≡ term_weight r = ap term_weight (sym read) in
+    let after : term_weight new ≡ term_weight r + cond (makes_term r.role && Z) 1 0 = ap (λ R. terms_for R new.terms.items) role ∙ weight_then r.role Z r.terms.items new.terms.items t listed in
+    omega (arith, sums, before, after, total, counts)
 
 module _ (names : List (List ℕ)) (old : List RowDraft) (k : ℕ) (r : RowDraft) (n text : List ℕ) (column count : ℕ) (at : position (bytes_eq n) names ≡ Some k) (read : r ≡ get_or old k r) (ls : List Line) (es : List Entry) (columns : List (List ℕ)) (owner : List ℕ) (rows : RowsAgree names old ls) (agree : EntriesAgree names old columns count ls es) (ends : last_of columns ≡ Some owner) (size : length columns ≡ column + 1) where
   role_here : HasRole ls n r
@@ -140,6 +155,7 @@ module _ (names : List (List ℕ)) (old : List RowDraft) (k : ℕ) (r : RowDraft
           counted = counts ∙ sym counted_then;
           few = subst (λ (c : ℕ). c ≤ 100000) (sym counts) (room_of r.role (is_column r.last_column column) (is_nonzero text) count (number_kind (10 ^ 9) text) agree.few good);
           apart = agree.apart;
+          total = weight_set names old k r new count new_count (is_nonzero text) (column, number_or_zero text) n at agree.last read role agree.total counts listed;
         },
       )
     where

@@ -1,11 +1,11 @@
 -- The terms of a row, behind one more column or one more entry.
-use Rattle.std.proofs.Common.{◌≡◌, ◌∙◌, ap, sym, subst, ℕ, ℤ, pos, ◌+◌, ◌<◌, Bool, true, false, ◌&&◌, cond, List, [], ◌∷◌, ◌++◌, length, get_or, Some, None, refl, arith, append-nil, suc}
+use Rattle.std.proofs.Common.{◌≡◌, ◌∙◌, ap, sym, subst, ℕ, ℤ, pos, ◌+◌, ◌<◌, Bool, true, false, ◌&&◌, cond, List, [], ◌∷◌, ◌++◌, length, get_or, Some, None, refl, arith, append-nil, suc, length-append}
 use Rattle.std.specs.Prelude.{bytes_eq, unwrap_or}
 use Rattle.std.specs.List.{IsDistinct}
 use Rattle.std.proofs.lemmas.Bool.{or_parts, both_ways}
-use Rattle.std.proofs.lemmas.List.{length_push, get_or_push, get_or_append_left}
+use Rattle.std.proofs.lemmas.List.{length_push, get_or_push, get_or_append_left, append_assoc}
 use Rattle.std.proofs.lemmas.List.Folds.{Any-from_list_any}
-use Rattle.std.proofs.lemmas.Map.Keys.{apart_from_distinct}
+use Rattle.std.proofs.lemmas.Map.Keys.{apart_from_distinct, IsDistinct-from_apart}
 use Rattle.mps_reader.specs.MpsLines.{Entry, is_one_of, last_of}
 use Rattle.mps_reader.specs.MpsRules.{is_nonzero}
 use Rattle.mps_reader.specs.MpsModels.{given, number_in, number_or_zero, is_not_zero, terms_from}
@@ -65,7 +65,7 @@ split_last [] owner e = absurd (cc)
 split_last (c ∷ []) owner e = let same : c ≡ owner = cc in ([], ap (λ (d : List ℕ). d ∷ []) same)
 split_last (c ∷ d ∷ cs) owner e = let rest : EndsAs (d ∷ cs) owner = split_last (d ∷ cs) owner e in (c ∷ rest.0, ap (λ r. c ∷ r) rest.1)
 
-absent_b : (front : List (List ℕ)) (owner : List ℕ) (b : Bool) → IsDistinct bytes_eq (front ++ owner ∷ []) → is_one_of front owner ≡ b → b ≡ false
+pub absent_b : (front : List (List ℕ)) (owner : List ℕ) (b : Bool) → IsDistinct bytes_eq (front ++ owner ∷ []) → is_one_of front owner ≡ b → b ≡ false
 absent_b front owner false d e = refl
 absent_b front owner true d e =
     let found = Any-from_list_any (bytes_eq owner) front e in
@@ -97,3 +97,14 @@ terms_added es cs owner n text column last distinct size none =
     ∙ ap (λ i. terms_from 0 es front n ++ term_if i (number_or_zero text)) place
     ∙ ap (λ b. terms_from 0 es front n ++ cond b ((column, number_or_zero text) ∷ []) []) (sym (nonzero_is text))
     ∙ ap (λ r. r ++ cond (is_nonzero text) ((column, number_or_zero text) ∷ []) []) (sym before)
+
+-- distinct names, as far as one of them
+pub distinct_front : (front : List (List ℕ)) (n : List ℕ) (rest : List (List ℕ)) → IsDistinct bytes_eq (front ++ n ∷ rest) → IsDistinct bytes_eq (front ++ n ∷ [])
+distinct_front front n rest d =
+    IsDistinct-from_apart bytes_eq (front ++ n ∷ [])
+    (λ i j x below inside.
+    let whole : j < length ((front ++ n ∷ []) ++ rest) = omega (arith, inside, length-append (front ++ n ∷ []) rest) in
+    let all : IsDistinct bytes_eq ((front ++ n ∷ []) ++ rest) = subst (λ (xs : List (List ℕ)). IsDistinct bytes_eq xs) (sym (append_assoc front (n ∷ []) rest)) d in
+    ap (λ w. bytes_eq w (get_or (front ++ n ∷ []) j x)) (sym (get_or_append_left (front ++ n ∷ []) rest x i (omega (arith, below, inside))))
+    ∙ ap (bytes_eq (get_or ((front ++ n ∷ []) ++ rest) i x)) (sym (get_or_append_left (front ++ n ∷ []) rest x j inside))
+    ∙ apart_from_distinct bytes_eq ((front ++ n ∷ []) ++ rest) i j x all below whole)

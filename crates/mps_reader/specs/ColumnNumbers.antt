@@ -12,6 +12,11 @@ makes_term Objective = false
 makes_term Dropped = false
 makes_term (Kept sense) = true
 
+abbrev pub is_objective_role : RowRole → Bool
+is_objective_role Objective = true
+is_objective_role Dropped = false
+is_objective_role (Kept sense) = false
+
 abbrev pub is_unread : RowRole → Bool
 is_unread Objective = false
 is_unread Dropped = true

@@ -1,5 +1,5 @@
 -- What is kept of the columns, behind lines of a text.
-use Rattle.std.specs.Prelude.{◌≡◌, ◌&&◌, ℕ, Bool, false, List, [], ◌∷◌, length, codes, bytes_eq, nat_le, Option, Some, None, if◌then◌else◌}
+use Rattle.std.specs.Prelude.{◌≡◌, ◌&&◌, ℕ, Bool, false, List, [], ◌∷◌, length, codes, bytes_eq, nat_le, Option, Some, None, if◌then◌else◌, ℤ, ◌≤◌, unsigned_abs}
 use Rattle.std.specs.List.{IsDistinct}
 use Rattle.mps_reader.specs.MpsLines.{Line, field, data_of, is_marker, begins_column, column_starts, column_names, integer_names, in_integer_part, is_one_of, last_of}
 use Rattle.mps_reader.specs.MpsRules.{first_kind, is_long}
@@ -9,6 +9,7 @@ use Rattle.mps_reader.specs.Tables.{IsTable}
 use Rattle.mps_reader.specs.declared.MpsKind.{MpsKind}
 use Rattle.mps_reader.specs.declared.MpsKind.TheVariants.{LongName, Duplicate, TooMany}
 use Rattle.mps_reader.specs.declared.columns.ColumnDraft.{ColumnDraft}
+use Rattle.std.specs.Option.{ForSome}
 
 -- the column that the next line may continue
 abbrev pub continued_by : Option Line → Option (List ℕ)
@@ -30,10 +31,16 @@ pub record ColumnsReady (names : List (List ℕ)) (current : Option (List ℕ)) 
   pub last : (o : List ℕ) → current ≡ Some o → last_of names ≡ Some o
   pub inside : part ≡ in_integer_part ls
 
+-- a side that is set is infinite, or a number within the limit
+abbrev pub IsLimited : Option (Option ℤ) → Type 0
+IsLimited o = ForSome o (λ s. ForSome s (λ z. unsigned_abs z ≤ 1000000))
+
 pub record HasColumn (ls : List Line) (name : List ℕ) (column : ColumnDraft) : Type 0 where
   pub named : column.name ≡ name
   pub bounds : BoundsAgree column.bounds (bound_lines ls name)
   pub marked : column.is_marked ≡ is_one_of (integer_names ls) name
+  pub low_limit : IsLimited column.bounds.low
+  pub high_limit : IsLimited column.bounds.high
 
 pub record ColumnsAgree (names : List (List ℕ)) (columns : List ColumnDraft) (ls : List Line) : Type 0 where
   pub known : IsTable (HasColumn ls) names columns

@@ -1,6 +1,6 @@
 -- The draft of a model, behind lines of a text.
-use Rattle.std.specs.Prelude.{◌≡◌, ℕ, Bool, true, false, List, [], ◌∷◌, ◌++◌, None, codes, option_map, unwrap_or, if◌then◌else◌}
-use Rattle.mps_reader.specs.MpsLines.{Line, field, column_names, headers_of, last_of, entries_of, sets_of}
+use Rattle.std.specs.Prelude.{◌≡◌, ℕ, Bool, true, false, List, [], ◌∷◌, ◌++◌, None, codes, option_map, unwrap_or, if◌then◌else◌, ◌≤◌, length}
+use Rattle.mps_reader.specs.MpsLines.{Line, field, column_names, headers_of, last_of, entries_of, sets_of, kept_rows}
 use Rattle.mps_reader.specs.MpsRules.{line_kind, direction_words}
 use Rattle.mps_reader.specs.MpsModels.{is_end}
 use Rattle.mps_reader.specs.Openings.{HeadersAgree, direction_of}
@@ -37,6 +37,7 @@ pub record HasParts (d : Draft) (ls : List Line) : Type 0 where
   pub bounds : ColumnsAgree (texts_of d.columns.table.names.keys) d.columns.table.items.items ls
   pub numbers : EntriesAgree (texts_of d.rows.table.names.keys) d.rows.table.items.items (texts_of d.columns.table.names.keys) d.columns.entries ls (entries_of (codes "COLUMNS") ls)
   pub direction : d.headers.direction ≡ direction_of (direction_words ls)
+  pub few_rows : length (kept_rows ls) ≤ 1000
 
 -- the section of the last header
 abbrev pub section_behind : List Line → List ℕ

@@ -22,15 +22,15 @@ or_else (Some kind) more = Some kind
 abbrev pub is_long : List ℕ → Bool
 is_long name = nat_lt 255 (length name)
 
+abbrev pub result_kind : ℕ → Result ℤ NumberError → Option MpsKind
+result_kind most (Ok z) = if nat_lt most (unsigned_abs z) then Some Magnitude else None
+result_kind most (Err number.NotNumber) = Some Number
+result_kind most (Err number.Fraction) = Some Fraction
+result_kind most (Err number.TooWide) = Some Magnitude
+
 -- a number text of a whole number of at most this absolute value
 abbrev pub number_kind : ℕ → List ℕ → Option MpsKind
-number_kind most text = by_result (number_of text)
-  where
-    by_result : Result ℤ NumberError → Option MpsKind
-    by_result (Ok z) = if nat_lt most (unsigned_abs z) then Some Magnitude else None
-    by_result (Err number.NotNumber) = Some Number
-    by_result (Err number.Fraction) = Some Fraction
-    by_result (Err number.TooWide) = Some Magnitude
+number_kind most text = result_kind most (number_of text)
 
 abbrev pub is_nonzero_result : Result ℤ NumberError → Bool
 is_nonzero_result (Ok z) = nat_lt 0 (unsigned_abs z)

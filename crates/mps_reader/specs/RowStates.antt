@@ -1,27 +1,29 @@
 -- What is kept of the rows, behind lines of a text.
-use Rattle.std.specs.Prelude.{◌≡◌, ◌<◌, ◌≤◌, ◌-◌, ℕ, Bool, true, false, ◌&&◌, not, List, [], length, map, codes, bytes_eq, Option, Some, if◌then◌else◌, ◌^◌}
-use Rattle.std.specs.List.{list_any, IsDistinct}
+use Rattle.std.specs.Prelude.{◌≡◌, ◌<◌, ◌≤◌, ◌-◌, ℕ, Bool, false, ◌&&◌, not, List, [], length, map, codes, bytes_eq, Option, Some, if◌then◌else◌, ◌^◌, ℤ}
+use Rattle.std.specs.List.{list_any, IsDistinct, sum_by}
 use Rattle.mps_reader.specs.MpsLines.{Line, Entry, field, data_of, free_rows, is_kept, is_objective, is_dropped, is_one_of, last_of}
 use Rattle.mps_reader.specs.MpsRules.{term_count, set_kind}
 use Rattle.mps_reader.specs.MpsModels.{given, terms_from}
 use Rattle.mps_reader.specs.Tables.{IsTable}
 use Rattle.mps_reader.specs.RowTables.{sense_with, sense_after}
+pub use Rattle.mps_reader.specs.ColumnNumbers.{is_objective_role}
 use Rattle.mps_reader.specs.ColumnNumbers.{makes_term, is_unread, is_column}
 use Rattle.mps_reader.specs.SideNumbers.{ignores, side_of}
 use Rattle.mps_reader.specs.declared.MpsKind.{MpsKind}
 use Rattle.mps_reader.specs.declared.row_draft.RowRole.{RowRole}
-use Rattle.mps_reader.specs.declared.row_draft.RowRole.TheVariants.{Objective, Dropped, Kept}
 use Rattle.mps_reader.specs.declared.row_draft.RowDraft.{RowDraft}
 use Rattle.mps_reader.specs.declared.sides.Side.{Side}
 use Rattle.mps_reader.specs.declared.sides.Side.TheVariants.{Rhs, Range}
 
-abbrev pub is_objective_role : RowRole → Bool
-is_objective_role Objective = true
-is_objective_role Dropped = false
-is_objective_role (Kept sense) = false
-
 abbrev pub row_names : List Line → List (List ℕ)
 row_names ls = map (field 1) (data_of (codes "ROWS") ls)
+
+-- how many terms the row gives the model
+abbrev pub terms_for : RowRole → List (ℕ × ℤ) → ℕ
+terms_for role terms = if makes_term role then length terms else 0
+
+abbrev pub term_weight : RowDraft → ℕ
+term_weight row = terms_for row.role row.terms.items
 
 -- ---- roles
 
@@ -89,3 +91,4 @@ pub record EntriesAgree (names : List (List ℕ)) (rows : List RowDraft) (column
   pub counted : count ≡ term_count ls es
   pub few : count ≤ 100000
   pub apart : IsDistinct bytes_eq columns
+  pub total : sum_by term_weight rows ≡ count

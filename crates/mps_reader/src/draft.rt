@@ -113,6 +113,7 @@ impl<'a> Draft<'a> {
     /// The model, once the text has ended.
     pub(crate) fn into_model(self, alloc: Global) -> Result<Model, Fault>
         ensures ok { IfOk result (λ m. (ls : List Line) → HasParts self.entry ls → m ≡ model_of_lines ls) }
+        ensures err { IfErr result (λ fault. (ls : List Line) → HasParts self.entry ls → IsFault fault (end_kind ls (column_names ls))) }
         ensures ended { (ls : List Line) (kind : MpsKind) → ColumnsAgree (texts_of self.entry.columns.table.names.keys) self.entry.columns.table.items.items ls → texts_of self.entry.columns.table.names.keys ≡ column_names ls → end_kind ls (column_names ls) ≡ Some kind → IsEndedWith kind result }
     {
         let Draft {
@@ -207,7 +208,9 @@ fn column_part(draft: ColumnDraft, cost: i64) -> Result<ColumnPart, MpsKind>
 }
 
 // Why parts made no model, in the words of a text.
-fn fault_of(error: ModelError) -> Fault {
+fn fault_of(error: ModelError) -> Fault
+    ensures { error ≡ ModelError.Memory → result ≡ Fault.Memory }
+{
     match error {
         ModelError::TooMany(_) => Fault::Refused(MpsKind::TooMany),
         ModelError::Unbounded(_) => Fault::Refused(MpsKind::Unbounded),

@@ -6,12 +6,12 @@
 //! model or is the first one that offends, and then its first offence is told.
 #![tactic(auto)]
 
-ghost use Rattle.std.specs.Prelude.{◌≡◌, ◌≤◌, ◌+◌, ℕ, List, length, IfOk};
+ghost use Rattle.std.specs.Prelude.{◌≡◌, ◌≤◌, ◌+◌, ℕ, List, length, IfOk, IfErr};
 ghost use Rattle.mps_reader.specs.MpsLines.{Line, column_names};
 ghost use Rattle.mps_reader.specs.MpsModels.{model_of, model_of_lines, end_kind};
 ghost use Rattle.mps_reader.specs.Tables.{texts_of};
 ghost use Rattle.mps_reader.specs.ColumnStates.{ColumnsAgree};
-ghost use Rattle.mps_reader.specs.Endings.{IsRefusedWith};
+ghost use Rattle.mps_reader.specs.Endings.{IsRefusedWith, IsErrorOf, IsErrorAt};
 ghost use Rattle.mps_reader.specs.Drafts.{HasParts};
 ghost use Rattle.mps_reader.specs.declared.MpsKind.{MpsKind};
 ghost use Rattle.mps_reader.specs.MpsLines as lines;
@@ -94,6 +94,7 @@ pub const MAX_BYTES: usize = 16_777_216;
 pub fn read_model(alloc: Global, bytes: &[u8]) -> Result<Model, MpsError>
     requires { length bytes.now ≤ 16777216 }
     ensures accepted { IfOk result (λ m. model_of bytes.now ≡ Ok m) }
+    ensures err { IfErr result (λ error. IsErrorOf (model_of bytes.now) error) }
     ensures refused { (refusal : ℕ × MpsKind) → model_of bytes.now ≡ Err refusal → IsRefusedWith refusal result }
 {
     let mut draft = Draft::new(alloc);
@@ -120,6 +121,7 @@ pub fn read_model(alloc: Global, bytes: &[u8]) -> Result<Model, MpsError>
 // The model of a draft, whose text ended at this line.
 fn model_at(alloc: Global, draft: Draft, line: u32) -> Result<Model, MpsError>
     ensures ok { IfOk result (λ m. (ls : List Line) → HasParts draft.entry ls → m ≡ model_of_lines ls) }
+    ensures err { IfErr result (λ error. (ls : List Line) → HasParts draft.entry ls → IsErrorAt line (end_kind ls (column_names ls)) error) }
     ensures ended { (ls : List Line) (kind : MpsKind) → ColumnsAgree (texts_of draft.entry.columns.table.names.keys) draft.entry.columns.table.items.items ls → texts_of draft.entry.columns.table.names.keys ≡ column_names ls → end_kind ls (column_names ls) ≡ Some kind → IsRefusedWith (line, kind) result }
 {
     match draft.into_model(alloc) {

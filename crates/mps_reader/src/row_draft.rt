@@ -1,5 +1,6 @@
 // A row of the text, and what it is for.
-ghost use Rattle.std.specs.Prelude.{◌≤◌, unsigned_abs};
+ghost use Rattle.std.specs.Prelude.{◌≡◌, ◌≤◌, true, All, unsigned_abs};
+ghost use Rattle.mps_reader.specs.ColumnNumbers.{is_objective_role};
 ghost use Rattle.std.specs.Option.{ForSome};
 
 use int_model::{Name, RowSense};
@@ -25,4 +26,7 @@ pub(crate) struct RowDraft {
     pub(crate) last_column: Option<u32>,
     pub(crate) terms: Vec<(u32, i64)>,
     ghost rhs_limit: { ForSome rhs (λ z. unsigned_abs z ≤ 1000000000000000000) },
+    ghost constant_limit: { is_objective_role role ≡ true → ForSome rhs (λ z. unsigned_abs z ≤ 1000000000000000) },
+    ghost range_limit: { ForSome range (λ z. unsigned_abs z ≤ 1000000000000000000) },
+    ghost terms_limit: { All (λ t. unsigned_abs t.1 ≤ 1000000000) terms.items },
 }

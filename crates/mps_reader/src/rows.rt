@@ -32,6 +32,7 @@ pub(crate) struct Rows<'a> {
     pub(crate) table: Named<'a, RowDraft>,
     kept: usize,
     has_objective: bool,
+    ghost few: { kept ≤ 1000 },
 }
 
 const MAX_ROWS: usize = 1_000;
