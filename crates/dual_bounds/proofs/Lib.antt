@@ -3,3 +3,4 @@ pub mod RefusalLaws
 pub mod ProductLemmas
 pub mod MergeLemmas
 pub mod SumLemmas
+pub mod Examples

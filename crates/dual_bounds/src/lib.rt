@@ -11,3 +11,6 @@ mod vector;
 
 pub use bounding::{bound, evaluate};
 pub use vector::{Vector, VectorError};
+
+#[cfg(test)]
+mod tests;
