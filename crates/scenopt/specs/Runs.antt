@@ -3,7 +3,7 @@ use Rattle.std.specs.Prelude.{◌≡◌, ◌⊎◌, ℕ, ◌<◌, ◌≤◌, Lis
 use Rattle.desk.specs.Causes.{Rose}
 use Rattle.desk.specs.Desk.{View, Files, bytes_of}
 use Rattle.int_model.specs.Models.{IntegerModel}
-use Rattle.mps_reader.specs.MpsModels.{Refusal, model_of}
+use Rattle.mps_reader.specs.MpsModels.{model_of}
 use Rattle.mps_reader.specs.declared.MpsKind.{MpsKind}
 use Rattle.scenario_changes.specs.Changes.{Change, ChangeSet}
 use Rattle.scenario_changes.specs.Problems.{Scenarios, problem}
@@ -83,15 +83,11 @@ pub record IsAnswered (p : Scenarios) (text : List ℕ) : Type 0 where
 
 -- ---- how a run ends
 
--- where a model's text is refused, it is at this line and for this kind
-abbrev pub IsRefusedAt : List ℕ → ℕ → MpsKind → Type 0
-IsRefusedAt bytes line kind = (refusal : Refusal) → model_of bytes ≡ Err refusal → (line ≡ refusal.0) × (kind ≡ refusal.1)
-
 -- why a model is refused, as a message
 abbrev pub IsModelRefusal : Option Files → List ℕ → List ℕ → Type 0
 IsModelRefusal files name message =
     (IsTooLong files name × (message ≡ too_long Model))
-    ⊎ ((bytes : List ℕ) × HasBytes files name bytes × ((line : ℕ) × (kind : MpsKind) × IsRefusedAt bytes line kind × (message ≡ model_line line kind)))
+    ⊎ ((bytes : List ℕ) × HasBytes files name bytes × ((line : ℕ) × (kind : MpsKind) × (model_of bytes ≡ Err (line, kind)) × (message ≡ model_line line kind)))
 
 -- why a file of changes to a model is refused, as a message
 abbrev pub IsChangesRefusal : Option Files → Option (List ℕ) → IntegerModel → List ℕ → Type 0
