@@ -90,7 +90,10 @@ impl From<AllocError> for MpsError {
 /// The greatest length of a text in bytes.
 pub const MAX_BYTES: usize = 16_777_216;
 
-/// The model of a text of at most 16,777,216 bytes, or the first line that offends.
+/// The model of a text of at most 16,777,216 bytes.
+///
+/// Errors: `Line` exactly for a text that has no model, with its first line that offends, counted from 1, and its
+/// first offence there; `NoEnd` is one line behind the last. `Memory` may come for any text.
 pub fn read_model(alloc: Global, bytes: &[u8]) -> Result<Model, MpsError>
     requires { length bytes.now ≤ 16777216 }
     ensures accepted { IfOk result (λ m. model_of bytes.now ≡ Ok m) }
