@@ -180,6 +180,39 @@ fn refuses_changes_at_their_first_offence(rt: HostRuntime) -> Result<(), Fail> {
 }
 
 #[test]
+fn reads_each_layout(rt: HostRuntime) -> Result<(), Fail> {
+    let alloc = rt.alloc();
+    let cases = [
+        // Carriage returns, tabs, comments, empty lines, and bytes behind the end.
+        ((7, " x cost -3 cap 2\r\n"), (10, "RHS\r\n")),
+        ((7, "\tx\tcost\t-3\tcap\t2\n"), (15, "ENDATA")),
+        (
+            (7, "* x cost 1\n\n \t\n x cost -3 cap 2\n"),
+            (15, "ENDATA\nROWS\n \0 x\n"),
+        ),
+        // One pair a line, and a right-hand side without the name of a set.
+        ((7, " x cost -3\n x cap 2\n"), (11, " cap 4\n")),
+        // The last of several bounds counts.
+        (
+            (13, " UP b x 9\n UP b x 3\n"),
+            (14, " FX b y 1\n MI b y\n LO b y 0\n UP b y 3\n"),
+        ),
+        // Numbers of dropped rows aren't read.
+        (
+            (3, " N cost\n N other\n"),
+            (7, " x cost -3 other junk\n x cap 2\n"),
+        ),
+    ];
+    for (first, second) in cases {
+        let text = edited(alloc, first, second)?;
+        let (desk, status) = solved(alloc, text.as_str())?;
+        assert_eq!(rt; status, Status::Done, "at {text}");
+        assert_eq!(rt; desk.printed(), M1_REPORT.as_bytes(), "at {text}");
+    }
+    Ok(())
+}
+
+#[test]
 fn refuses_models_at_their_first_offence(rt: HostRuntime) -> Result<(), Fail> {
     let alloc = rt.alloc();
     let cases = [
@@ -233,6 +266,73 @@ fn refuses_models_at_their_first_offence(rt: HostRuntime) -> Result<(), Fail> {
             (0, ""),
             "model line 7: Magnitude\n",
         ),
+        // Each kind in each section where it may come.
+        (
+            (2, "OBJSENSE\n UP\nROWS\n"),
+            (0, ""),
+            "model line 3: Fields\n",
+        ),
+        ((2, "OBJSENSE\nROWS\n"), (0, ""), "model line 3: Section\n"),
+        ((2, "ROWS\n N cost\n"), (0, ""), "model line 4: Duplicate\n"),
+        ((4, " L cap more\n"), (0, ""), "model line 4: Fields\n"),
+        ((7, " x cost\n"), (0, ""), "model line 7: Fields\n"),
+        (
+            (7, " x cost -3 cost -3\n"),
+            (0, ""),
+            "model line 7: Duplicate\n",
+        ),
+        (
+            (8, " y cost -2\n x cap 1\n"),
+            (0, ""),
+            "model line 9: Duplicate\n",
+        ),
+        ((11, " rhs\n"), (0, ""), "model line 11: Fields\n"),
+        (
+            (11, " rhs cap 4 cap 4\n"),
+            (0, ""),
+            "model line 11: Duplicate\n",
+        ),
+        ((11, " rhs cap four\n"), (0, ""), "model line 11: Number\n"),
+        ((11, " rhs cap 4.5\n"), (0, ""), "model line 11: Fraction\n"),
+        (
+            (11, " rhs cost 1e16\n"),
+            (0, ""),
+            "model line 11: Magnitude\n",
+        ),
+        (
+            (12, "RANGES\n r cap\nBOUNDS\n"),
+            (0, ""),
+            "model line 13: UnknownRow\n",
+        ),
+        (
+            (12, "RANGES\n r cap 1 cap 1\nBOUNDS\n"),
+            (0, ""),
+            "model line 13: Duplicate\n",
+        ),
+        (
+            (12, "RANGES\n r cap 1e19\nBOUNDS\n"),
+            (0, ""),
+            "model line 13: Magnitude\n",
+        ),
+        (
+            (12, "RANGES\n r top 1\nBOUNDS\n"),
+            (0, ""),
+            "model line 13: UnknownRow\n",
+        ),
+        ((13, " UP b\n"), (0, ""), "model line 13: Fields\n"),
+        ((13, " XX b x 3\n"), (0, ""), "model line 13: Fields\n"),
+        (
+            (13, " UP b x 3\n UP c x 3\n"),
+            (0, ""),
+            "model line 14: SecondSet\n",
+        ),
+        ((13, " UP b x three\n"), (0, ""), "model line 13: Number\n"),
+        ((13, " UP b x 1e-1\n"), (0, ""), "model line 13: Fraction\n"),
+        (
+            (13, " UP b x 1000001\n"),
+            (0, ""),
+            "model line 13: Magnitude\n",
+        ),
     ];
     for (first, second, message) in cases {
         let text = edited(alloc, first, second)?;
@@ -244,6 +344,32 @@ fn refuses_models_at_their_first_offence(rt: HostRuntime) -> Result<(), Fail> {
     let (desk, status) = solved(alloc, "")?;
     assert_eq!(rt; status, Status::ModelRefused);
     assert_eq!(rt; desk.warned(), b"model line 1: NoEnd\n".as_slice());
+    Ok(())
+}
+
+// How many fronts of a text are accepted as models.
+fn accepted_fronts(alloc: Global, text: &str) -> Result<usize, AllocError> {
+    let mut accepted = 0usize;
+    let mut front = String::new(alloc);
+    for letter in text.chars() {
+        let (_, status) = solved(alloc, front.as_str())?;
+        if status != Status::ModelRefused {
+            accepted = accepted.saturating_add(1);
+        }
+        front.push(letter)?;
+    }
+    let (_, status) = solved(alloc, front.as_str())?;
+    if status != Status::ModelRefused {
+        accepted = accepted.saturating_add(1);
+    }
+    Ok(accepted)
+}
+
+#[test]
+fn accepts_no_front_but_the_last_two(rt: HostRuntime) -> Result<(), Fail> {
+    let alloc = rt.alloc();
+    let m1 = edited(alloc, (0, ""), (0, ""))?;
+    assert_eq!(rt; accepted_fronts(alloc, m1.as_str())?, 2usize);
     Ok(())
 }
 
