@@ -82,3 +82,6 @@ pub fn choose(problem: &Problem, bounds: &PointBox, live: LiveSet) -> Branch
         value: middle(low, high),
     }
 }
+
+#[cfg(test)]
+mod tests;
