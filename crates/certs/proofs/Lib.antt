@@ -4,3 +4,4 @@ pub mod ProblemLemmas
 pub mod CutLemmas
 pub mod StartLemmas
 pub mod ReplayLemmas
+pub mod Examples

@@ -19,3 +19,6 @@ pub use level::Level;
 pub use lists::{Steps, Vectors};
 pub use start::start_level;
 pub use verdict::Verdict;
+
+#[cfg(test)]
+mod tests;
