@@ -1,5 +1,5 @@
 // Whether a verdict is valid at a box, and its level.
-ghost use Rattle.std.specs.Prelude.{◌≡◌, ◌≤◌, ◌<◌, length, All, IfSome, option_and_then, slice_get};
+ghost use Rattle.std.specs.Prelude.{◌≡◌, ◌≤◌, ◌<◌, length, All, IfSome};
 ghost use Rattle.int_model.specs.Boxes.{meet};
 ghost use Rattle.int_model.specs.Programs.{AreTerms};
 ghost use Rattle.int_model.specs.RowSums.{misses_ends};
@@ -187,7 +187,8 @@ fn level_on_nothing(verdict: Verdict) -> Option<Level>
 }
 
 /// The level of a verdict for scenario s at a box. None exactly where the verdict isn't valid there.
-/// `scratch` then holds the replay of the certificate's steps, unless that is empty. It takes no memory.
+/// `scratch` has the box's length, and holds the replay of the certificate's steps after the call, unless
+/// that is empty. It takes no memory.
 ///
 /// Its time is that of the replay, and for a vector of one [`evaluate`].
 pub fn judge(

@@ -55,6 +55,7 @@ impl Steps {
 /// At most two vectors of multipliers, which lie in the value itself.
 #[derive(Drop)]
 pub struct Vectors {
+    // A place that isn't taken is None, since a vector has no blank of its own.
     places: SmallVec<Option<Vector>, 2>,
 }
 

@@ -1,9 +1,8 @@
 // The level where a search begins.
 ghost use Rattle.std.specs.Prelude.{◌≡◌, ◌≤◌, ◌<◌, ◌^◌, length, All, unsigned_abs};
-ghost use Rattle.int_model.specs.Limits.{IsBound, IsEntry};
+ghost use Rattle.int_model.specs.Limits.{IsBound};
 ghost use Rattle.int_model.specs.Boxes.{box_of, is_empty};
 ghost use Rattle.int_model.specs.Programs.{CostsWithin};
-ghost use Rattle.int_model.specs.RowSums.{least_product};
 ghost use Rattle.scenario_changes.specs.Problems.{program_at, root_box};
 ghost use Rattle.scenario_changes.specs.Problems as problems;
 ghost use Rattle.certs.specs.Costs.{least_cost};
