@@ -1,0 +1,5 @@
+pub mod Places
+pub mod Costs
+pub mod Levels
+pub mod Verdicts
+pub mod Laws

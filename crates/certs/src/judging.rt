@@ -1,0 +1,221 @@
+// Whether a verdict is valid at a box, and its level.
+ghost use Rattle.std.specs.Prelude.{◌≡◌, ◌≤◌, ◌<◌, length, All, IfSome};
+ghost use Rattle.int_model.specs.Boxes.{meet};
+ghost use Rattle.int_model.specs.Programs.{AreTerms};
+ghost use Rattle.int_model.specs.RowSums.{misses_ends};
+ghost use Rattle.int_model.specs.RowSums as sums;
+ghost use Rattle.tighten.specs.Replay as steps;
+ghost use Rattle.tighten.specs.Steps.{IsStep};
+ghost use Rattle.dual_bounds.specs.Vectors.{RowsBelow};
+ghost use Rattle.scenario_changes.specs.Problems.{program_at};
+ghost use Rattle.scenario_changes.specs.Problems as problems;
+ghost use Rattle.certs.specs.Verdicts.{AllRowsBelow, judged, level_over};
+ghost use Rattle.certs.specs.Verdicts as spec;
+
+use crate::{Cert, Level, Vectors, Verdict};
+use activity::{least, most};
+use dual_bounds::{Vector, bound, evaluate};
+use int_model::{Ends, PointBox};
+use scenario_changes::Problem;
+use tighten::replay;
+
+// Makes a box the part of another one that lies in a scenario's bounds.
+fn cut_to_scenario(problem: &Problem, s: u32, bounds: &PointBox, part: &mut PointBox)
+    requires scenario { s < length (problems.problem problem.now).scenarios }
+    requires columns { length bounds.now ≡ length problem.now.model.columns }
+    requires part { length part.old ≡ length problem.now.model.columns }
+    ensures value { part.new ≡ meet bounds.now (program_at (problems.problem problem.now) s).bounds }
+    ensures count { length part.new ≡ length problem.now.model.columns }
+{
+    let _limits = problem.costs(s);
+    let lows = bounds.lows();
+    let highs = bounds.highs();
+    let scenario_lows = problem.lows(s);
+    let scenario_highs = problem.highs(s);
+    for j in 0..lows.len() {
+        let low = lows[j].max(scenario_lows[j]);
+        let high = highs[j].min(scenario_highs[j]);
+        part.set(j as u32, low, high);
+    }
+}
+
+// Whether a sum is above the end, where there is one.
+fn is_above(end: Option<i64>, sum: i64) -> bool
+    ensures { result ≡ sums.is_above end sum }
+{
+    match end {
+        Some(upper) => upper < sum,
+        None => false,
+    }
+}
+
+// Whether a sum is below the end, where there is one.
+fn is_below(end: Option<i64>, sum: i64) -> bool
+    ensures { result ≡ sums.is_below end sum }
+{
+    match end {
+        Some(lower) => sum < lower,
+        None => false,
+    }
+}
+
+// Whether the sum of a row lies outside its ends everywhere in the box.
+fn misses(terms: &[(u32, i64)], ends: Ends, bounds: &PointBox) -> bool
+    requires few { length bounds.now ≤ 1000 }
+    requires row { AreTerms 0 (length bounds.now) terms.now }
+    ensures { result ≡ misses_ends terms.now ends bounds.now }
+{
+    let lows = bounds.lows();
+    let highs = bounds.highs();
+    let least = least(terms, lows, highs);
+    if is_above(ends.upper, least) {
+        return true;
+    }
+    let most = most(terms, lows, highs);
+    is_below(ends.lower, most)
+}
+
+// The level of a missed row, None where the row isn't missed or doesn't exist.
+fn row_level(problem: &Problem, s: u32, part: &PointBox, row: u32) -> Option<Level>
+    requires scenario { s < length (problems.problem problem.now).scenarios }
+    requires columns { length part.now ≡ length problem.now.model.columns }
+    ensures { result ≡ spec.row_level (program_at (problems.problem problem.now) s) row part.now }
+{
+    let _limits = problem.costs(s);
+    let model = problem.model();
+    let _columns = model.columns();
+    if row >= model.rows() {
+        return None;
+    }
+    let ends = problem.ends(s)[row as usize];
+    if misses(model.row(row).terms.as_slice(), ends, part) {
+        Some(Level::Inf)
+    } else {
+        None
+    }
+}
+
+// The level of a vector whose scale is 0, None where its sum isn't positive.
+fn farkas_level(problem: &Problem, s: u32, part: &PointBox, vector: &Vector) -> Option<Level>
+    requires scenario { s < length (problems.problem problem.now).scenarios }
+    requires columns { length part.now ≡ length problem.now.model.columns }
+    requires rows { RowsBelow (length problem.now.model.rows) vector.now.entries }
+    ensures { result ≡ spec.farkas_level (program_at (problems.problem problem.now) s) part.now vector.now }
+{
+    if vector.scale() != 0 {
+        return None;
+    }
+    let sum = evaluate(
+        problem.model(),
+        problem.costs(s),
+        problem.ends(s),
+        vector,
+        part,
+    );
+    if sum > 0 { Some(Level::Inf) } else { None }
+}
+
+// The bound of a vector, None where its scale is 0.
+fn bound_level(problem: &Problem, s: u32, part: &PointBox, vector: &Vector) -> Option<Level>
+    requires scenario { s < length (problems.problem problem.now).scenarios }
+    requires columns { length part.now ≡ length problem.now.model.columns }
+    requires rows { RowsBelow (length problem.now.model.rows) vector.now.entries }
+    ensures { result ≡ spec.bound_level (program_at (problems.problem problem.now) s) part.now vector.now }
+{
+    if vector.scale() == 0 {
+        return None;
+    }
+    let value = bound(
+        problem.model(),
+        problem.costs(s),
+        problem.constant(),
+        problem.ends(s),
+        vector,
+        part,
+    );
+    Some(Level::Value(value))
+}
+
+// The value of the only point, None where the box isn't one point.
+fn point_level(problem: &Problem, s: u32, part: &PointBox) -> Option<Level>
+    requires scenario { s < length (problems.problem problem.now).scenarios }
+    requires columns { length part.now ≡ length problem.now.model.columns }
+    ensures { result ≡ spec.point_level (program_at (problems.problem problem.now) s) part.now }
+{
+    if !part.is_single() {
+        return None;
+    }
+    Some(Level::Value(problem.value(s, part.lows())))
+}
+
+// The level of a verdict over a replay that isn't empty, None where the verdict isn't valid there.
+fn level_on_replay(
+    problem: &Problem,
+    s: u32,
+    part: &PointBox,
+    vectors: &Vectors,
+    verdict: Verdict,
+) -> Option<Level>
+    requires scenario { s < length (problems.problem problem.now).scenarios }
+    requires columns { length part.now ≡ length problem.now.model.columns }
+    requires rows { AllRowsBelow (length problem.now.model.rows) vectors.now }
+    ensures { result ≡ level_over (program_at (problems.problem problem.now) s) vectors.now verdict part.now }
+{
+    match verdict {
+        Verdict::Empty => None,
+        Verdict::Misses(row) => row_level(problem, s, part, row),
+        Verdict::Farkas(k) => match vectors.get(k as usize) {
+            Some(vector) => farkas_level(problem, s, part, vector),
+            None => None,
+        },
+        Verdict::Bound(k) => match vectors.get(k as usize) {
+            Some(vector) => bound_level(problem, s, part, vector),
+            None => None,
+        },
+        Verdict::Point => point_level(problem, s, part),
+    }
+}
+
+// The level of a verdict over an empty replay.
+fn level_on_nothing(verdict: Verdict) -> Option<Level>
+    ensures { result ≡ spec.empty_level verdict }
+{
+    match verdict {
+        Verdict::Empty => Some(Level::Inf),
+        _ => None,
+    }
+}
+
+/// The level of a verdict for scenario s at a box. None exactly where the verdict isn't valid there.
+/// `scratch` has the box's length, and holds the replay of the certificate's steps after the call, unless
+/// that is empty. It takes no memory.
+///
+/// Its time is that of the replay, and for a vector of one [`evaluate`].
+pub fn judge(
+    problem: &Problem,
+    s: u32,
+    bounds: &PointBox,
+    cert: &Cert,
+    verdict: Verdict,
+    scratch: &mut PointBox,
+) -> Option<Level>
+    requires scenario { s < length (problems.problem problem.now).scenarios }
+    requires columns { length bounds.now ≡ length problem.now.model.columns }
+    requires steps { All (IsStep problem.now.model) cert.now.steps }
+    requires vectors { AllRowsBelow (length problem.now.model.rows) cert.now.vectors }
+    requires scratch { length scratch.old ≡ length problem.now.model.columns }
+    ensures level { result ≡ judged (program_at (problems.problem problem.now) s) bounds.now cert.now verdict }
+    ensures replay { IfSome (steps.replay (program_at (problems.problem problem.now) s) cert.now.steps bounds.now) (λ part. scratch.new ≡ part) }
+    ensures count { length scratch.new ≡ length problem.now.model.columns }
+{
+    cut_to_scenario(problem, s, bounds, scratch);
+    if !replay(
+        problem.model(),
+        problem.ends(s),
+        cert.steps.as_slice(),
+        scratch,
+    ) {
+        return level_on_nothing(verdict);
+    }
+    level_on_replay(problem, s, scratch, &cert.vectors, verdict)
+}

@@ -1,0 +1,24 @@
+//! Certificates of a branch-and-bound search: what may be recorded of a box, and which lower bound on
+//! the values of a scenario's feasible points that proves.
+//!
+//! `specs/Verdicts.antt` defines when a verdict is valid and its level, and `laws` has what is proved of
+//! these definitions.
+#![tactic(auto)]
+
+mod cert;
+mod judging;
+pub mod laws;
+mod level;
+mod lists;
+mod start;
+mod verdict;
+
+pub use cert::Cert;
+pub use judging::judge;
+pub use level::Level;
+pub use lists::{Steps, Vectors};
+pub use start::start_level;
+pub use verdict::Verdict;
+
+#[cfg(test)]
+mod tests;
