@@ -1,4 +1,3 @@
 mod SearchLemmas
 mod WordLemmas
-mod DeskLemmas
 mod RunLemmas

@@ -2,8 +2,10 @@
 use Rattle.std.proofs.Common.{◌≡◌, ◌∙◌, ap, sym, subst, ℕ, suc, ◌+◌, ◌≤◌, List, [], ◌∷◌, ◌++◌, length, take, Option, Some, None, option_map, Result, Ok, Err, Vec, ◌⊎◌, inl, inr, refl, arith, append_assoc}
 use Rattle.std.proofs.lemmas.List.{take_all, append-nil}
 use Rattle.desk.specs.Causes.{Rose}
-use Rattle.desk.specs.Desk.{View, Files}
-use Rattle.scenopt.specs.Messages.{unreadable, out_of_memory}
+use Rattle.desk.specs.Desk.{View, Files, Appends, WriteHasCause}
+use Rattle.desk.specs.declared.DeskError.{DeskError}
+use Rattle.desk.specs.declared.DeskError.TheVariants.{Failed, Memory}
+use Rattle.scenopt.specs.Messages.{unreadable, unwritable, out_of_memory}
 use Rattle.std.specs.declared.alloc.Global.{Global}
 use Rattle.std.specs.declared.alloc.AllocError.{AllocError}
 use Rattle.std.specs.Result.{IfOk, IfErr, IsErrAnd, MatchResult}
@@ -13,9 +15,10 @@ use Rattle.scenario_changes.specs.Problems.{Scenarios}
 use Rattle.scenopt.specs.declared.input.Input.TheVariants.{Model, Changes}
 use Rattle.scenopt.specs.Words.{Inputs, IsSolve}
 use Rattle.scenopt.proofs.WordLemmas.{same_inputs}
-use Rattle.scenopt.specs.Runs.{Runs, Solves, HasModel, HasChanges, HasProblem, IsChangesRefusal, IsRefusal, StopsAtInput, names_of, names_to, Adds, AddsFront, AddsNames, Tells, Refuses, Misses, Lacks, Stops, Stays, Fetches, OnlyWarns, refused}
+use Rattle.scenopt.specs.Runs.{Runs, Solves, Reports, HasModel, HasChanges, HasProblem, IsChangesRefusal, IsRefusal, StopsAtInput, names_of, names_to, Adds, AddsFront, Tries, AddsNames, Tells, Refuses, Misses, Lacks, Stops, Stays, Fetches, OnlyWarns, refused}
 use Rattle.scenopt.specs.declared.input.Input.{Input}
 use Rattle.scenopt.specs.declared.run.Status.{Status}
+use Rattle.scenopt.specs.declared.run.Status.TheVariants as status
 
 -- a count that rose since a later moment rose since an earlier one
 rose_since : (a b c : ℕ) → a ≤ b → Rose b c → Rose a c
@@ -52,15 +55,26 @@ tells_since s message old mid new r w f (inl told) = inl (told.0, adds_since old
 tells_since s message old mid new r w f (inr (inl failed)) = inr (inl (failed.0, rose_since old.write_faults mid.write_faults new.write_faults f failed.1, front_since old.warned mid.warned new.warned message w failed.2))
 tells_since s message old mid new r w f (inr (inr lost)) = inr (inr (lost.0, lost.1 ∙ w))
 
+pub tries_since : (message : List ℕ) (old mid new : View) → mid.warned ≡ old.warned → old.write_faults ≤ mid.write_faults → Tries message mid new → Tries message old new
+tries_since message old mid new w f (inl told) = inl (adds_since old.warned mid.warned new.warned message w told)
+tries_since message old mid new w f (inr (inl failed)) = inr (inl (rose_since old.write_faults mid.write_faults new.write_faults f failed.0, front_since old.warned mid.warned new.warned message w failed.1))
+tries_since message old mid new w f (inr (inr lost)) = inr (inr (lost ∙ w))
+
+-- what a warning leaves, whatever it answered
+pub tried_by : (message : List ℕ) (old new : View) (r : Result (Unit {0}) DeskError) → Appends old.warned new.warned message r → WriteHasCause old.write_faults new.write_faults r → Tries message old new
+tried_by message old new (Ok u) a h = inl a
+tried_by message old new (Err Failed) a h = inr (inl (h.1, a))
+tried_by message old new (Err Memory) a h = inr (inr a)
+
 -- a text that was fetched is refused
 pub stops_refused : (input : Input) (file : Option (List ℕ)) (IsWhy : List ℕ → Type 0) (names : List (List ℕ)) (old mid new : View) (message : List ℕ) (r : Status) → Fetches names old mid → Stays old mid → OnlyWarns mid new → IsWhy message → Tells (refused input) message mid new r → Stops input file IsWhy names old new r
 stops_refused input file IsWhy names old mid new message r f s w why t =
     inl (names_kept old mid new names f.asked w.fetched, inl (message, why, tells_since (refused input) message old mid new r f.warned s.write_faults t))
 
 -- memory was wanting once these names were asked for
-pub stops_lacking : (input : Input) (file : Option (List ℕ)) (IsWhy : List ℕ → Type 0) (names : List (List ℕ)) (old mid new : View) (r : Status) → Fetches names old mid → OnlyWarns mid new → Lacks mid new r → Stops input file IsWhy names old new r
-stops_lacking input file IsWhy names old mid new r f w l =
-    inr (record { status = l.status; warned = front_since old.warned mid.warned new.warned out_of_memory f.warned l.warned }, (length names, names_kept old mid new (take (length names) names) (rw (take_all (length names) names (omega arith)) f.asked) w.fetched))
+pub stops_lacking : (input : Input) (file : Option (List ℕ)) (IsWhy : List ℕ → Type 0) (names : List (List ℕ)) (old mid new : View) (r : Status) → Fetches names old mid → Stays old mid → OnlyWarns mid new → Lacks mid new r → Stops input file IsWhy names old new r
+stops_lacking input file IsWhy names old mid new r f s w l =
+    inr (record { status = l.status; warned = tries_since out_of_memory old mid new f.warned s.write_faults l.warned }, (length names, names_kept old mid new (take (length names) names) (rw (take_all (length names) names (omega arith)) f.asked) w.fetched))
 
 -- another reason of the same message
 pub stops_more : (input : Input) (file : Option (List ℕ)) (P Q : List ℕ → Type 0) (names : List (List ℕ)) (old new : View) (r : Status) → ((message : List ℕ) → P message → Q message) → Stops input file P names old new r → Stops input file Q names old new r
@@ -81,9 +95,9 @@ pub stops_after : (input : Input) (file : Option (List ℕ)) (IsWhy : List ℕ �
 stops_after input file IsWhy names more old mid new r f s (inl (asked, inl (message, why, tells))) =
     inl (names_after old mid new names more f.asked asked, inl (message, why, tells_since (refused input) message old mid new r f.warned s.write_faults tells))
 stops_after input file IsWhy names more old mid new r f s (inl (asked, inr misses)) =
-    inl (names_after old mid new names more f.asked asked, inr (record { named = misses.named; status = misses.status; rose = rose_since old.fetch_faults mid.fetch_faults new.fetch_faults s.fetch_faults misses.rose; warned = front_since old.warned mid.warned new.warned (unreadable input) f.warned misses.warned }))
+    inl (names_after old mid new names more f.asked asked, inr (record { named = misses.named; status = misses.status; rose = rose_since old.fetch_faults mid.fetch_faults new.fetch_faults s.fetch_faults misses.rose; warned = tries_since (unreadable input) old mid new f.warned s.write_faults misses.warned }))
 stops_after input file IsWhy names more old mid new r f s (inr (lacks, (n, asked))) =
-    inr (record { status = lacks.status; warned = front_since old.warned mid.warned new.warned out_of_memory f.warned lacks.warned }, (length names + n, rw (taken_after names more n) (names_after old mid new names (take n more) f.asked asked)))
+    inr (record { status = lacks.status; warned = tries_since out_of_memory old mid new f.warned s.write_faults lacks.warned }, (length names + n, rw (taken_after names more n) (names_after old mid new names (take n more) f.asked asked)))
 
 pub fetches_after : (names more : List (List ℕ)) (old mid new : View) → Fetches names old mid → Fetches more mid new → Fetches (names ++ more) old new
 fetches_after names more old mid new f g = record { asked = names_after old mid new names more f.asked g.asked; warned = g.warned ∙ f.warned }
@@ -102,7 +116,7 @@ warns_stays old new w = record { files = w.files; printed = w.printed; fetch_fau
 -- a refusal whose message perhaps found no memory
 pub refused_by : (input : Input) (file : Option (List ℕ)) (IsWhy : List ℕ → Type 0) (names : List (List ℕ)) (old mid new : View) (message : Result (Vec ℕ Global) AllocError) (text : List ℕ) (r : Status) → Fetches names old mid → Stays old mid → OnlyWarns mid new → IsWhy text → IfOk message (λ m. m.items ≡ text) → MatchResult message (λ m. Tells (refused input) m.items mid new r) (λ _. Lacks mid new r) → Stops input file IsWhy names old new r
 refused_by input file IsWhy names old mid new (Ok m) text r f s w why is tells = stops_refused input file IsWhy names old mid new text r f s w why (subst (λ (t : List ℕ). Tells (refused input) t mid new r) is tells)
-refused_by input file IsWhy names old mid new (Err e) text r f s w why is lacks = stops_lacking input file IsWhy names old mid new r f w lacks
+refused_by input file IsWhy names old mid new (Err e) text r f s w why is lacks = stops_lacking input file IsWhy names old mid new r f s w lacks
 
 -- ---- changes
 
@@ -121,9 +135,9 @@ posed inputs m scenarios p old mid new has f s changes g is =
     (subst (λ (q : Scenarios). HasProblem old.files inputs q) (sym is) (record { model = has; changes = own }), fetches_after (inputs.model ∷ []) (names_of inputs.changes) old mid new f g)
 
 -- memory was wanting once both texts were read
-pub lacks_problem : (inputs : Inputs) (old mid next new : View) (r : Status) → Fetches (inputs.model ∷ []) old mid → Fetches (names_of inputs.changes) mid next → OnlyWarns next new → Lacks next new r → StopsAtInput inputs old new r
-lacks_problem inputs old mid next new r f g w l =
-    (Changes, stops_lacking Changes inputs.changes (IsRefusal old.files inputs Changes) (names_to inputs Changes) old next new r (fetches_after (inputs.model ∷ []) (names_of inputs.changes) old mid next f g) w l)
+pub lacks_problem : (inputs : Inputs) (old mid next new : View) (r : Status) → Fetches (inputs.model ∷ []) old mid → Fetches (names_of inputs.changes) mid next → Stays old mid → Stays mid next → OnlyWarns next new → Lacks next new r → StopsAtInput inputs old new r
+lacks_problem inputs old mid next new r f g s t w l =
+    (Changes, stops_lacking Changes inputs.changes (IsRefusal old.files inputs Changes) (names_to inputs Changes) old next new r (fetches_after (inputs.model ∷ []) (names_of inputs.changes) old mid next f g) (stays_after old mid next s t) w l)
 
 -- what an error of this status means
 pub err_as : {T : Type 0} (r : Result T Status) (s : Status) (P : Status → Type 0) → IsErrAnd r (λ t. t ≡ s) → P s → IfErr r P
@@ -137,3 +151,18 @@ runs_solve words inputs old new r is s files = record {
   no_command = λ none. absurd (none inputs is);
   files = files;
 }
+
+-- a report behind names that were asked for before
+reports_since : (p : Scenarios) (names : List (List ℕ)) (old mid new : View) (r : Status) → Fetches names old mid → Stays old mid → Reports p mid new r → Reports p old new r
+reports_since p names old mid new status.Done f s (text, is, printed, warned) = (text, is, adds_since old.printed mid.printed new.printed text s.printed printed, warned ∙ f.warned)
+reports_since p names old mid new status.WriteFault f s (rose, (text, is, printed, warned)) = (rose_since old.write_faults mid.write_faults new.write_faults s.write_faults rose, (text, is, front_since old.printed mid.printed new.printed text s.printed printed, tries_since unwritable old mid new f.warned s.write_faults warned))
+reports_since p names old mid new status.Memory f s (printed, warned) = (printed ∙ s.printed, tries_since out_of_memory old mid new f.warned s.write_faults warned)
+reports_since p names old mid new status.Usage f s e = absurd e
+reports_since p names old mid new status.ModelRefused f s e = absurd e
+reports_since p names old mid new status.ChangesRefused f s e = absurd e
+reports_since p names old mid new status.ReadFault f s e = absurd e
+
+-- a problem that was read is reported on
+pub solved_by : (inputs : Inputs) (p : Scenarios) (old mid new : View) (r : Status) → HasProblem old.files inputs p → Fetches (names_to inputs Changes) old mid → Stays old mid → Reports p mid new r → new.fetched ≡ mid.fetched → Solves inputs old new r
+solved_by inputs p old mid new r has f s told same =
+    inr (p, has, names_kept old mid new (names_to inputs Changes) f.asked same, reports_since p (names_to inputs Changes) old mid new r f s told)

@@ -44,6 +44,14 @@ Adds old new text = new ≡ option_map (λ told. told ++ text) old
 abbrev pub AddsFront : Option (List ℕ) → Option (List ℕ) → List ℕ → Type 0
 AddsFront old new text = (n : ℕ) × (new ≡ option_map (λ told. told ++ take n text) old)
 
+-- What trying to warn a message leaves: all of it was warned, or after a fault a front of it, or for want of memory
+-- nothing.
+abbrev pub Tries : List ℕ → View → View → Type 0
+Tries message old new =
+    Adds old.warned new.warned message
+    ⊎ (Rose old.write_faults new.write_faults × AddsFront old.warned new.warned message)
+    ⊎ (new.warned ≡ old.warned)
+
 -- these names were asked for, in order
 abbrev pub AddsNames : View → View → List (List ℕ) → Type 0
 AddsNames old new names = new.fetched ≡ option_map (λ told. told ++ names) old.fetched
@@ -131,12 +139,12 @@ pub record Misses (input : Input) (file : Option (List ℕ)) (old new : View) (r
   pub named : IsSome file
   pub status : result ≡ status.ReadFault
   pub rose : Rose old.fetch_faults new.fetch_faults
-  pub warned : AddsFront old.warned new.warned (unreadable input)
+  pub warned : Tries (unreadable input) old new
 
 -- memory was wanting
 pub record Lacks (old new : View) (result : Status) : Type 0 where
   pub status : result ≡ status.Memory
-  pub warned : AddsFront old.warned new.warned out_of_memory
+  pub warned : Tries out_of_memory old new
 
 -- A run stopped at the text of a file, behind these names: it was refused or couldn't be read, or before all of them
 -- were asked for, or behind them, memory was wanting.
@@ -148,8 +156,8 @@ Stops input file IsWhy names old new result =
 -- the report was printed, or there was a fault at that or want of memory
 abbrev pub Reports : Scenarios → View → View → Status → Type 0
 Reports p old new status.Done = (text : List ℕ) × IsAnswered p text × Adds old.printed new.printed text × (new.warned ≡ old.warned)
-Reports p old new status.WriteFault = Rose old.write_faults new.write_faults × ((text : List ℕ) × IsAnswered p text × AddsFront old.printed new.printed text × AddsFront old.warned new.warned unwritable)
-Reports p old new status.Memory = (new.printed ≡ old.printed) × AddsFront old.warned new.warned out_of_memory
+Reports p old new status.WriteFault = Rose old.write_faults new.write_faults × ((text : List ℕ) × IsAnswered p text × AddsFront old.printed new.printed text × Tries unwritable old new)
+Reports p old new status.Memory = (new.printed ≡ old.printed) × Tries out_of_memory old new
 Reports p old new status.Usage = ⊥
 Reports p old new status.ModelRefused = ⊥
 Reports p old new status.ChangesRefused = ⊥

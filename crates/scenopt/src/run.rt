@@ -2,7 +2,7 @@
 ghost use Rattle.std.specs.Prelude.{◌≡◌, ◌∷◌, [], map, string_bytes, option_map, Some, IfOk, IfErr, MatchResult};
 ghost use Rattle.scenario_changes.specs.Changes.{Fits};
 ghost use Rattle.scenopt.specs.Messages.{too_long};
-ghost use Rattle.scenopt.specs.Runs.{Runs, Solves, StopsAtInput, Reports, Stops, HasBytes, HasModel, HasChanges, HasProblem, IsAnswered, IsTooLong, IsModelRefusal, IsChangesRefusal, names_of, names_to, Stays, Fetches, Tells, Lacks, AddsFront, OnlyWarns, status_code};
+ghost use Rattle.scenopt.specs.Runs.{Runs, Solves, StopsAtInput, Reports, Stops, HasBytes, HasModel, HasChanges, HasProblem, IsAnswered, IsTooLong, IsModelRefusal, IsChangesRefusal, names_of, names_to, Stays, Fetches, Tells, Lacks, Tries, OnlyWarns, status_code};
 ghost use Rattle.scenopt.specs.declared.input.Input.TheVariants as input;
 ghost use Rattle.scenopt.specs.Runs as spec;
 
@@ -72,7 +72,7 @@ fn told<D: Desk>(desk: &mut D, message: &[u8], status: Status) -> Status
 // Tries to warn a message, and leaves the status as it is.
 fn tried<D: Desk>(desk: &mut D, message: &[u8], status: Status) -> Status
     ensures status { result ≡ status }
-    ensures warned { AddsFront (D.view desk.old).warned (D.view desk.new).warned message.now }
+    ensures warned { Tries message.now (D.view desk.old) (D.view desk.new) }
     ensures others { OnlyWarns (D.view desk.old) (D.view desk.new) }
 {
     let _ = desk.warn(message);
@@ -188,6 +188,7 @@ fn report_of(alloc: Global, problem: &Problem) -> Result<Vec<u8>, AllocError>
 }
 
 // Prints the report of a problem.
+#[tactic(auto, using(crate::proofs::RunLemmas::tries_since))]
 fn print_report<D: Desk>(alloc: Global, problem: &Problem, desk: &mut D) -> Status
     ensures reports { Reports problem.now (D.view desk.old) (D.view desk.new) result }
     ensures files { (D.view desk.new).files ≡ (D.view desk.old).files }

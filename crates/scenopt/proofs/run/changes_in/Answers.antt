@@ -19,4 +19,4 @@ returns-in-Err-Line-clause-err g c =
 pub returns-clause-err : goal.returns-clause-err
 returns-clause-err g c =
     named_changes (g.D.Desk.view c.args.desk.now).files _ c.in-Some.name.now c.args.model.now _ _ _ (ap (option_map (λ n. n.now)) c.in-Some.is)
-    (stops_lacking Changes (Some c.in-Some.name.now) (IsChangesRefusal (g.D.Desk.view c.args.desk.now).files (Some c.in-Some.name.now) c.args.model.now) (c.in-Some.name.now ∷ []) _ _ _ _ c.in_ok-bytes.ensures.ok.1 c.lacking-in-Err-Memory.ensures.others c.lacking-in-Err-Memory.ensures.lacks)
+    (stops_lacking Changes (Some c.in-Some.name.now) (IsChangesRefusal (g.D.Desk.view c.args.desk.now).files (Some c.in-Some.name.now) c.args.model.now) (c.in-Some.name.now ∷ []) _ _ _ _ c.in_ok-bytes.ensures.ok.1 c.in_ok-bytes.ensures.stays c.lacking-in-Err-Memory.ensures.others c.lacking-in-Err-Memory.ensures.lacks)

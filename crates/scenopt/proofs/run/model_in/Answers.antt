@@ -17,4 +17,4 @@ returns-in-Err-Line-clause-err g c =
     c.model_message.ensures c.refuse.ensures.tells
 
 pub returns-clause-err : goal.returns-clause-err
-returns-clause-err g c = stops_lacking Model (Some c.args.name.now) (IsModelRefusal (g.D.Desk.view c.args.desk.now).files c.args.name.now) (c.args.name.now ∷ []) _ _ _ _ c.in_ok-bytes.ensures.ok.1 c.lacking.ensures.others c.lacking.ensures.lacks
+returns-clause-err g c = stops_lacking Model (Some c.args.name.now) (IsModelRefusal (g.D.Desk.view c.args.desk.now).files c.args.name.now) (c.args.name.now ∷ []) _ _ _ _ c.in_ok-bytes.ensures.ok.1 c.in_ok-bytes.ensures.stays c.lacking.ensures.others c.lacking.ensures.lacks

@@ -17,4 +17,4 @@ returns-in-Ok-clause-ok g c =
 pub returns-in-Err-clause-err : goal.returns-in-Err-clause-err
 returns-in-Err-clause-err g c =
     let inputs : Inputs = record { model = c.args.model.now; changes = option_map (λ n. n.now) c.args.changes } in
-    lacks_problem inputs _ _ _ _ _ c.in_ok-model.ensures.ok.1 c.in_ok-changes.ensures.ok.2 c.lacking.ensures.others c.lacking.ensures.lacks
+    lacks_problem inputs _ _ _ _ _ c.in_ok-model.ensures.ok.1 c.in_ok-changes.ensures.ok.2 c.in_ok-model.ensures.stays c.in_ok-changes.ensures.stays c.lacking.ensures.others c.lacking.ensures.lacks
