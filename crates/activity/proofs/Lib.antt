@@ -1,3 +1,4 @@
 pub mod ProductLemmas
 pub mod SumLemmas
 pub mod ExtremeLaws
+pub mod MissedLemmas

@@ -8,6 +8,9 @@ ghost use Rattle.int_model.specs.RowSums.{least_product, greatest_product, least
 ghost use Rattle.activity.specs.Sums.{AreSummed};
 
 pub mod laws;
+mod missed;
+
+pub use missed::misses;
 
 // A coefficient times a bound.
 fn product(coefficient: i64, bound: i32) -> i64

@@ -1,4 +1,5 @@
 use super::*;
+use int_model::{Ends, PointBox};
 use std::test::Fail;
 
 #[test]
@@ -28,5 +29,24 @@ fn sums_at_the_limits(rt: HostRuntime) -> Result<(), Fail> {
         most(&[(0, -1_000_000_000)], &low, &high),
         1_000_000_000_000_000
     );
+    Ok(())
+}
+
+#[test]
+fn a_row_is_missed(rt: HostRuntime) -> Result<(), Fail> {
+    let bounds = PointBox::from_ends(rt.alloc(), &[2, -1], &[3, 4])?;
+    let terms = [(0, 2), (1, -1)];
+    let cases = [
+        (None, None, false),
+        (None, Some(0), false),
+        (None, Some(-1), true),
+        (Some(7), None, false),
+        (Some(8), None, true),
+        (Some(1), Some(-1), true),
+        (Some(0), Some(7), false),
+    ];
+    for (lower, upper, missed) in cases {
+        assert_eq!(rt; misses(&terms, Ends { lower, upper }, &bounds), missed);
+    }
     Ok(())
 }

@@ -1,8 +1,6 @@
 // Whether a verdict is valid at a box, and its level.
 ghost use Rattle.std.specs.Prelude.{◌≡◌, ◌≤◌, ◌<◌, length, All, IfSome};
 ghost use Rattle.int_model.specs.Boxes.{meet};
-ghost use Rattle.int_model.specs.Programs.{AreTerms};
-ghost use Rattle.int_model.specs.RowSums.{misses_ends};
 ghost use Rattle.int_model.specs.RowSums as sums;
 ghost use Rattle.tighten.specs.Replay as steps;
 ghost use Rattle.tighten.specs.Steps.{IsStep};
@@ -13,9 +11,9 @@ ghost use Rattle.certs.specs.Verdicts.{AllRowsBelow, judged, level_over};
 ghost use Rattle.certs.specs.Verdicts as spec;
 
 use crate::{Cert, Level, Vectors, Verdict};
-use activity::{least, most};
+use activity::misses;
 use dual_bounds::{Vector, bound, evaluate};
-use int_model::{Ends, PointBox};
+use int_model::PointBox;
 use scenario_changes::Problem;
 use tighten::replay;
 
@@ -37,42 +35,6 @@ fn cut_to_scenario(problem: &Problem, s: u32, bounds: &PointBox, part: &mut Poin
         let high = highs[j].min(scenario_highs[j]);
         part.set(j as u32, low, high);
     }
-}
-
-// Whether a sum is above the end, where there is one.
-fn is_above(end: Option<i64>, sum: i64) -> bool
-    ensures { result ≡ sums.is_above end sum }
-{
-    match end {
-        Some(upper) => upper < sum,
-        None => false,
-    }
-}
-
-// Whether a sum is below the end, where there is one.
-fn is_below(end: Option<i64>, sum: i64) -> bool
-    ensures { result ≡ sums.is_below end sum }
-{
-    match end {
-        Some(lower) => sum < lower,
-        None => false,
-    }
-}
-
-// Whether the sum of a row lies outside its ends everywhere in the box.
-fn misses(terms: &[(u32, i64)], ends: Ends, bounds: &PointBox) -> bool
-    requires few { length bounds.now ≤ 1000 }
-    requires row { AreTerms 0 (length bounds.now) terms.now }
-    ensures { result ≡ misses_ends terms.now ends bounds.now }
-{
-    let lows = bounds.lows();
-    let highs = bounds.highs();
-    let least = least(terms, lows, highs);
-    if is_above(ends.upper, least) {
-        return true;
-    }
-    let most = most(terms, lows, highs);
-    is_below(ends.lower, most)
 }
 
 // The level of a missed row, None where the row isn't missed or doesn't exist.

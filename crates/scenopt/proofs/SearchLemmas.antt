@@ -88,20 +88,6 @@ or_none : (a b : Bool) → (a || b) ≡ false → (a ≡ false) × (b ≡ false)
 or_none true b e = absurd (cc)
 or_none false b e = (refl, e)
 
--- whether the sum of a row misses its ends, by the sums at the sides of the box
-pub misses_by_sides : (terms : Terms) (e : Ends) (b : Box) (lows highs : List ℤ) (least most : ℤ) → lows ≡ lows_of b → highs ≡ highs_of b → least ≡ least_sum terms (box_of lows highs) → most ≡ greatest_sum terms (box_of lows highs) → (is_above e.upper least || is_below e.lower most) ≡ misses_ends terms e b
-misses_by_sides terms e b lows highs least most el eh f g =
-    let same : box_of lows highs ≡ b = sides_same b lows highs el eh in
-    let low : least ≡ least_sum terms b = f ∙ ap (least_sum terms) same in
-    let high : most ≡ greatest_sum terms b = g ∙ ap (greatest_sum terms) same in
-    rw (low, high) refl
-
-pub misses_above : (terms : Terms) (e : Ends) (b : Box) (lows highs : List ℤ) (least : ℤ) → lows ≡ lows_of b → highs ≡ highs_of b → least ≡ least_sum terms (box_of lows highs) → is_above e.upper least ≡ true → misses_ends terms e b ≡ true
-misses_above terms e b lows highs least el eh f up = sym (misses_by_sides terms e b lows highs least (greatest_sum terms (box_of lows highs)) el eh f refl) ∙ rw up refl
-
-pub misses_below : (terms : Terms) (e : Ends) (b : Box) (lows highs : List ℤ) (least most : ℤ) → lows ≡ lows_of b → highs ≡ highs_of b → least ≡ least_sum terms (box_of lows highs) → most ≡ greatest_sum terms (box_of lows highs) → is_above e.upper least ≡ false → misses_ends terms e b ≡ is_below e.lower most
-misses_below terms e b lows highs least most el eh f g up = sym (misses_by_sides terms e b lows highs least most el eh f g) ∙ rw up refl
-
 row_terms : (rows : List Row) (i : ℕ) (r : Row) → slice_get rows i ≡ Some r → get_or (map (λ (q : Row). q.terms) rows) i [] ≡ r.terms
 row_terms rows i r at = get_or-map (λ (q : Row). q.terms) rows i r [] (slice_get_within rows i r at) ∙ ap (λ (q : Row). q.terms) (get_or_from_slice_get rows i r r at)
 

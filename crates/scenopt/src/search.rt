@@ -2,18 +2,15 @@
 ghost use Rattle.std.specs.Prelude.{◌≡◌, ◌≤◌, ◌<◌, ◌<ℤ◌, ◌≤ℤ◌, [], length, All, IfOk, OnOk, MatchBool, MatchOption, true, false};
 ghost use Rattle.int_model.specs.Limits.{IsBound};
 ghost use Rattle.int_model.specs.Boxes.{interval_at, is_empty, is_single};
-ghost use Rattle.int_model.specs.Programs.{AreTerms};
 ghost use Rattle.int_model.specs.Programs as programs;
-ghost use Rattle.int_model.specs.RowSums.{misses_ends};
-ghost use Rattle.int_model.specs.RowSums as spec;
 ghost use Rattle.scen_report.specs.Reports.{Fits};
 ghost use Rattle.scenario_changes.specs.Answers.{RightAnswer};
 ghost use Rattle.scenario_changes.specs.Problems.{program_at};
 ghost use Rattle.scenario_changes.specs.Problems as problems;
 ghost use Rattle.scenopt.specs.Searches.{program_over, AreRight, HasNone, MissesNone, Keeps, HasHalves, Visits, Covers};
 
-use activity::{least, most};
-use int_model::{Ends, Point, PointBox};
+use activity::misses;
+use int_model::{Point, PointBox};
 use scenario_changes::{Answer, Answers, Problem};
 use std::alloc::{AllocError, Global};
 
@@ -22,42 +19,6 @@ use std::alloc::{AllocError, Global};
 pub(crate) struct Best {
     point: Point,
     value: i64,
-}
-
-// Whether a sum is above the end, where there is one.
-fn is_above(end: Option<i64>, sum: i64) -> bool
-    ensures { result ≡ spec.is_above end sum }
-{
-    match end {
-        Some(upper) => upper < sum,
-        None => false,
-    }
-}
-
-// Whether a sum is below the end, where there is one.
-fn is_below(end: Option<i64>, sum: i64) -> bool
-    ensures { result ≡ spec.is_below end sum }
-{
-    match end {
-        Some(lower) => sum < lower,
-        None => false,
-    }
-}
-
-// Whether the sum of a row lies outside its ends everywhere in the box.
-fn misses(terms: &[(u32, i64)], ends: Ends, bounds: &PointBox) -> bool
-    requires few { length bounds.now ≤ 1000 }
-    requires row { AreTerms 0 (length bounds.now) terms.now }
-    ensures { result ≡ misses_ends terms.now ends bounds.now }
-{
-    let lows = bounds.lows();
-    let highs = bounds.highs();
-    let least = least(terms, lows, highs);
-    if is_above(ends.upper, least) {
-        return true;
-    }
-    let most = most(terms, lows, highs);
-    is_below(ends.lower, most)
 }
 
 // Whether some row shows that no point of the box is feasible in a scenario.

@@ -1,8 +1,8 @@
 use Rattle.std.proofs.Common.{◌≡◌, ◌∙◌, sym, true, false, arith, FitsSigned, w64}
 use Rattle.std.proofs.lemmas.Int.{ints, to_z-of_z}
 use Rattle.int_model.specs.RowSums.{is_above, is_below}
-use Rattle.scenopt.proofs.SearchLemmas.{misses_above, misses_below}
-use Rattle.scenopt.proofs.search.misses.Goals as goal
+use Rattle.activity.proofs.MissedLemmas.{misses_above, misses_below}
+use Rattle.activity.proofs.missed.misses.Goals as goal
 
 pub returns-then-is_above : goal.returns-then-is_above
 returns-then-is_above c =
