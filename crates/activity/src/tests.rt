@@ -8,7 +8,7 @@ fn sums_of_both_signs(rt: HostRuntime) -> Result<(), Fail> {
     let high = [2, 5, -3];
     assert_eq!(rt; least(&[(0, 2), (1, -3)], &low, &high), -17);
     assert_eq!(rt; most(&[(0, 2), (1, -3)], &low, &high), -8);
-    assert_eq!(rt; extremes(&[(0, 2), (1, -3)], &low, &high), (-17, -8));
+    assert_eq!(rt; extremes(&[(0, 2), (1, -3)], &low, &high), (-17, -8, 7));
     assert_eq!(rt; least(&[(0, -2), (2, 3)], &low, &high), -25);
     assert_eq!(rt; most(&[(0, -2), (2, 3)], &low, &high), -7);
     assert_eq!(rt; least(&[(2, -5)], &low, &high), 15);

@@ -1,5 +1,5 @@
 -- What is known of a loaded engine, and of a change of its box.
-use Rattle.std.specs.Prelude.{◌≡◌, ◌≢◌, ℕ, zero, suc, ◌<◌, ◌≤◌, ℤ, pos, ◌+ℤ◌, ◌-ℤ◌, neg_ℤ, ◌≤ℤ◌, ◌<ℤ◌, int_lt, true, false, Bool, List, [], ◌∷◌, ◌++◌, length, take, slice_index_or, slice_set, Option, Some, None, Result, Ok, Err, IsErr, Vec, vec_capacity, drop, refl}
+use Rattle.std.specs.Prelude.{◌≡◌, ◌≢◌, ℕ, zero, suc, ◌*◌, ◌<◌, ◌≤◌, ℤ, pos, ◌+ℤ◌, ◌-ℤ◌, ◌*ℤ◌, neg_ℤ, unsigned_abs, nat_eq, ◌≤ℤ◌, ◌<ℤ◌, int_lt, true, false, Bool, List, [], ◌∷◌, ◌++◌, length, take, slice_index_or, slice_set, Option, Some, None, Result, Ok, Err, IsErr, Vec, vec_capacity, drop, refl}
 use Rattle.std.specs.List.{All}
 use Rattle.std.specs.declared.alloc.Global.{Global}
 use Rattle.std.specs.declared.alloc.AllocError.{AllocError}
@@ -7,6 +7,7 @@ use Rattle.std.specs.Vec.{with_items}
 use Rattle.std.proofs.Common.{arith, ap, sym, ◌∙◌, subst}
 use Rattle.std.proofs.lemmas.List.{length-set, length-take, get_or_default, set-get_or, take-append-le, drop-append-le, take_all}
 use Rattle.std.proofs.lemmas.List.Elements.{All-set, All-nil, All-cons}
+use Rattle.std.proofs.lemmas.Bool.Decides.{nat_tests}
 use Rattle.std.proofs.lemmas.Int.{ints, clamps}
 use Rattle.int_model.specs.Limits.{IsBound}
 use Rattle.int_model.specs.Boxes.{Interval, Box, box_of, interval_at, is_empty}
@@ -19,7 +20,7 @@ use Rattle.int_model.proofs.BoxLaws.{box_of-set, length-box_of}
 use Rattle.int_model.proofs.ByColumnLaws.{transposed}
 use Rattle.int_model.proofs.IntegerLaws.{neg-mul}
 use Rattle.int_model.proofs.ModelLaws.{rows-within}
-use Rattle.activity.specs.Sums.{AreSummed}
+use Rattle.activity.specs.Sums.{AreSummed, spread}
 use Rattle.activity.proofs.SumLemmas.{least_sum-limit, greatest_sum-limit, ordered}
 use Rattle.tighten.specs.declared.engine.Change.{Change}
 use Rattle.tighten.specs.declared.engine.Engine.{Engine}
@@ -31,12 +32,12 @@ use Rattle.tighten.specs.Engines.{box_in, restored, IsSized, IsChange, IsLoaded,
 use Rattle.tighten.specs.Queues.{IsQueue}
 use Rattle.tighten.specs.Replay.{narrowed, by_upper, by_lower, left_of, with_interval, tightened}
 use Rattle.tighten.specs.Steps.{IsStep, rows_of}
-use Rattle.tighten.specs.Sums.{AreLeast, AreGreatest, AreSmall, change}
+use Rattle.tighten.specs.Sums.{AreLeast, AreGreatest, AreSpreads, AreSmall, change}
 use Rattle.tighten.proofs.NarrowLemmas.{ColumnFacts, column-facts}
-use Rattle.tighten.proofs.OtherTerms.{least_sum-split, greatest_sum-split}
+use Rattle.tighten.proofs.OtherTerms.{coefficient-at, least_sum-split, greatest_sum-split}
 use Rattle.tighten.proofs.StepLemmas.{set-occupied, then_some}
 use Rattle.tighten.proofs.StepRuns.{narrows-one, tightens-none, tightens-trans, follows-same, restored-append}
-use Rattle.tighten.proofs.SumChanges.{least_sum-moved, greatest_sum-moved, interval-set}
+use Rattle.tighten.proofs.SumChanges.{least_sum-moved, greatest_sum-moved, interval-set, interval-set_other, product-spread}
 
 pub item-at : (xs : List ℤ) (i : ℕ) (v : ℤ) → v ≡ slice_index_or xs i v → i < length xs → v ≡ slice_index_or xs i (pos 0)
 item-at xs i v e h = e ∙ get_or_default xs i v (pos 0) h
@@ -115,6 +116,31 @@ moved_most m e j low high sums k s h o shifted i =
     sums_to : (x y z p q r : ℤ) → x ≡ y +ℤ p → y ≡ z → p ≡ q → r ≡ z +ℤ q → x ≡ r
     sums_to x y z p q r a b c d = omega (arith, ints)
 
+inside_box : (m : IntegerModel) (e : Engine) (j : ℕ) → IsLoaded m e → j < length m.columns → j < length (box_in e)
+inside_box m e j s h = omega (arith, h, s.sized.lows, length-box_of e.low.items e.high.items (s.sized.lows ∙ sym s.sized.highs))
+
+moved_spread : (m : IntegerModel) (e : Engine) (j : ℕ) (low high : ℤ) (width : ℕ) (spreads : List ℕ) → KeepsLimits m → IsLoaded m e → j < length m.columns → low ≤ℤ high → pos width ≡ high -ℤ low → ((i : ℕ) → slice_index_or e.spread.items i 0 ≤ slice_index_or spreads i 0) → ((i : ℕ) → unsigned_abs (coefficient i (column_terms j 0 (rows_of m))) * width ≤ slice_index_or spreads i 0) → AreSpreads (rows_of m) (slice_set (box_in e) j (interval low high)) spreads
+moved_spread m e j low high width spreads k s h o is grown wide i t inside = at (nat_eq (slice_index_or (slice_index_or (rows_of m) i []) t (0, pos 0)).0 j) refl
+  where
+    term : ℕ × ℤ
+    term = slice_index_or (slice_index_or (rows_of m) i []) t (0, pos 0)
+
+    at : (b : Bool) → nat_eq (slice_index_or (slice_index_or (rows_of m) i []) t (0, pos 0)).0 j ≡ b → spread (slice_index_or (slice_index_or (rows_of m) i []) t (0, pos 0)) (slice_set (box_in e) j (interval low high)) ≤ℤ pos (slice_index_or spreads i 0)
+    at true q =
+        let same : (slice_index_or (slice_index_or (rows_of m) i []) t (0, pos 0)).0 ≡ j = grind (arith, nat_tests) in
+        let own : coefficient i (column_terms j 0 (rows_of m)) ≡ (slice_index_or (slice_index_or (rows_of m) i []) t (0, pos 0)).1 = transposed (rows_of m) i j ∙ coefficient-at 0 (length m.columns) (slice_index_or (rows_of m) i []) t j (0, pos 0) (row-terms m i k) inside same in
+        let new : interval_at (slice_set (box_in e) j (interval low high)) (slice_index_or (slice_index_or (rows_of m) i []) t (0, pos 0)).0 ≡ interval low high = ap (interval_at (slice_set (box_in e) j (interval low high))) same ∙ interval-set (box_in e) j (interval low high) (inside_box m e j s h) in
+        let size = product-spread (slice_index_or (slice_index_or (rows_of m) i []) t (0, pos 0)).1 (interval low high) o in
+        let small : unsigned_abs (slice_index_or (slice_index_or (rows_of m) i []) t (0, pos 0)).1 * width ≤ slice_index_or spreads i 0 = subst (λ (a : ℤ). unsigned_abs a * width ≤ slice_index_or spreads i 0) own (wide i) in
+        let there : spread (slice_index_or (slice_index_or (rows_of m) i []) t (0, pos 0)) (slice_set (box_in e) j (interval low high)) ≡ pos (unsigned_abs (slice_index_or (slice_index_or (rows_of m) i []) t (0, pos 0)).1 * width) =
+        ap (λ (v : Interval). greatest_product (slice_index_or (slice_index_or (rows_of m) i []) t (0, pos 0)).1 v -ℤ least_product (slice_index_or (slice_index_or (rows_of m) i []) t (0, pos 0)).1 v) new ∙ size ∙ sym (ap (λ (z : ℤ). pos (unsigned_abs (slice_index_or (slice_index_or (rows_of m) i []) t (0, pos 0)).1) *ℤ z) is) in
+        omega (arith, ints, there, small)
+    at false q =
+        let other : (slice_index_or (slice_index_or (rows_of m) i []) t (0, pos 0)).0 ≢ j = grind (arith, nat_tests) in
+        let there : spread (slice_index_or (slice_index_or (rows_of m) i []) t (0, pos 0)) (slice_set (box_in e) j (interval low high)) ≡ spread (slice_index_or (slice_index_or (rows_of m) i []) t (0, pos 0)) (box_in e) =
+        ap (λ (v : Interval). greatest_product (slice_index_or (slice_index_or (rows_of m) i []) t (0, pos 0)).1 v -ℤ least_product (slice_index_or (slice_index_or (rows_of m) i []) t (0, pos 0)).1 v) (interval-set_other (box_in e) j (slice_index_or (slice_index_or (rows_of m) i []) t (0, pos 0)).0 (interval low high) other) in
+        omega (arith, ints, there, s.spread i t inside, grown i)
+
 -- what a change of one interval leaves as it was, and what it puts in place
 pub record IsMoved (m : IntegerModel) (e now : Engine) (j : ℕ) (low high : ℤ) : Type 0 where
   pub lows : now.low.items ≡ slice_set e.low.items j low
@@ -123,6 +149,11 @@ pub record IsMoved (m : IntegerModel) (e now : Engine) (j : ℕ) (low high : ℤ
   pub most : (i : ℕ) → slice_index_or now.most.items i (pos 0) ≡ slice_index_or e.most.items i (pos 0) +ℤ change (high -ℤ (interval_at (box_in e) j).high) (low -ℤ (interval_at (box_in e) j).low) (coefficient i (column_terms j 0 (rows_of m)))
   pub least_count : length now.least.items ≡ length e.least.items
   pub most_count : length now.most.items ≡ length e.most.items
+  pub width : ℕ
+  pub is_width : pos width ≡ high -ℤ low
+  pub grown : (i : ℕ) → slice_index_or e.spread.items i 0 ≤ slice_index_or now.spread.items i 0
+  pub wide : (i : ℕ) → unsigned_abs (coefficient i (column_terms j 0 (rows_of m))) * width ≤ slice_index_or now.spread.items i 0
+  pub spread_count : length now.spread.items ≡ length e.spread.items
   pub queue : now.queue ≡ e.queue
   pub trail : now.trail ≡ e.trail
   pub steps : now.steps ≡ e.steps
@@ -141,6 +172,7 @@ moved-loaded m e now j low high k s h small_low small_high o is =
         highs = ap length is.highs ∙ length-set e.high.items j high ∙ s.sized.highs;
         least = is.least_count ∙ s.sized.least;
         most = is.most_count ∙ s.sized.most;
+        spread = is.spread_count ∙ s.sized.spread;
         queue = rw is.queue s.sized.queue;
         waits = rw is.queue s.sized.waits;
         few = rw is.steps s.sized.few;
@@ -151,17 +183,19 @@ moved-loaded m e now j low high k s h small_low small_high o is =
       occupied = rw box (set-occupied (box_in e) j (interval low high) s.occupied not_less);
       least = rw box (moved_least m e j low high now.least.items k s h o is.least);
       most = rw box (moved_most m e j low high now.most.items k s h o is.most);
+      spread = rw box (moved_spread m e j low high is.width now.spread.items k s h o is.is_width is.grown is.wide);
       trail = rw is.trail s.trail;
     }
 
 -- another queue and another trail
-pub loaded-with : (m : IntegerModel) (e now : Engine) → IsLoaded m e → now.low ≡ e.low → now.high ≡ e.high → now.least ≡ e.least → now.most ≡ e.most → IsQueue now.queue → length now.queue.waits.items ≡ length e.queue.waits.items → All (IsChange m) now.trail.items → length now.steps.items ≤ 128 → 128 ≤ vec_capacity now.steps → IsLoaded m now
-loaded-with m e now s el eh ea em queue waits trail few room = record {
+pub loaded-with : (m : IntegerModel) (e now : Engine) → IsLoaded m e → now.low ≡ e.low → now.high ≡ e.high → now.least ≡ e.least → now.most ≡ e.most → now.spread ≡ e.spread → IsQueue now.queue → length now.queue.waits.items ≡ length e.queue.waits.items → All (IsChange m) now.trail.items → length now.steps.items ≤ 128 → 128 ≤ vec_capacity now.steps → IsLoaded m now
+loaded-with m e now s el eh ea em es queue waits trail few room = record {
   sized = record {
     lows = rw el s.sized.lows;
     highs = rw eh s.sized.highs;
     least = rw ea s.sized.least;
     most = rw em s.sized.most;
+    spread = rw es s.sized.spread;
     queue = queue;
     waits = waits ∙ s.sized.waits;
     few = few;
@@ -172,6 +206,7 @@ loaded-with m e now s el eh ea em queue waits trail few room = record {
   occupied = rw (el, eh) s.occupied;
   least = rw (el, eh, ea) s.least;
   most = rw (el, eh, em) s.most;
+  spread = rw (el, eh, es) s.spread;
   trail = trail;
 }
 
@@ -217,9 +252,6 @@ set_back (k ∷ box) (suc j) i = ap (λ (b : Box). k ∷ b) (set_back box j i)
 kept_box : (step : Step) (before now : Engine) → IsKept step before now → box_in now ≡ box_in before
 kept_box step before now k = rw (k.lows, k.highs) refl
 
-inside_box : (m : IntegerModel) (e : Engine) (j : ℕ) → IsLoaded m e → j < length m.columns → j < length (box_in e)
-inside_box m e j s h = omega (arith, h, s.sized.lows, length-box_of e.low.items e.high.items (s.sized.lows ∙ sym s.sized.highs))
-
 pub tightens-same : (m : IntegerModel) (ends : List Ends) (e : Engine) → IsLoaded m e → Tightens m ends e true e
 tightens-same m ends e s = tightens-none m ends e e s.sized.few (record { bounds = refl; trail = refl; steps = refl })
 
@@ -260,7 +292,7 @@ tightens-empty m ends before now step h cut kept =
 -- ---- what calls hand on
 
 -- a list written into another of its length
-pub refilled : (v : Vec ℤ Global) (ws : List ℤ) → length ws ≡ length v.items → (with_items v ws).items ≡ ws
+pub refilled : {A : Type 0} (v : Vec A Global) (ws : List A) → length ws ≡ length v.items → (with_items v ws).items ≡ ws
 refilled v ws same =
     let count : v.len ≡ length v.items = v.ok.0 in
     take-append-le v.len ws (drop (length ws) v.items) (omega arith) ∙ take_all v.len ws (omega arith)
@@ -270,19 +302,27 @@ pub shifted-by : (u u2 v v2 : ℤ) (ct ct2 : Terms) (old old2 new new2 : List �
 shifted-by u u2 v v2 ct ct2 old old2 new new2 eu ev ec eo en h i =
     ap (λ (xs : List ℤ). slice_index_or xs i (pos 0)) en ∙ h i ∙ ap (λ (xs : List ℤ). slice_index_or xs i (pos 0) +ℤ change u v (coefficient i ct)) eo ∙ ap (λ (z : ℤ). slice_index_or old2 i (pos 0) +ℤ change z v (coefficient i ct)) eu ∙ ap (λ (z : ℤ). slice_index_or old2 i (pos 0) +ℤ change u2 z (coefficient i ct)) ev ∙ ap (λ (ts : Terms). slice_index_or old2 i (pos 0) +ℤ change u2 v2 (coefficient i ts)) ec
 
+-- the same spreads in other words
+pub grown-by : (old old2 new2 new : List ℕ) → old ≡ old2 → new2 ≡ new → ((i : ℕ) → slice_index_or old i 0 ≤ slice_index_or new i 0) → (i : ℕ) → slice_index_or old2 i 0 ≤ slice_index_or new2 i 0
+grown-by old old2 new2 new eo en h i = omega (arith, h i, ap (λ (xs : List ℕ). slice_index_or xs i 0) eo, ap (λ (xs : List ℕ). slice_index_or xs i 0) en)
+
+pub wide-by : (ct ct2 : Terms) (new2 new : List ℕ) (width : ℕ) → ct ≡ ct2 → new2 ≡ new → ((i : ℕ) → unsigned_abs (coefficient i ct) * width ≤ slice_index_or new i 0) → (i : ℕ) → unsigned_abs (coefficient i ct2) * width ≤ slice_index_or new2 i 0
+wide-by ct ct2 new2 new width ec en h i = omega (arith, h i, ap (λ (ts : Terms). unsigned_abs (coefficient i ts) * width) ec, ap (λ (xs : List ℕ). slice_index_or xs i 0) en)
+
 pub loaded-kept : (m : IntegerModel) (before now : Engine) (step : Step) → IsLoaded m before → IsKept step before now → IsLoaded m now
 loaded-kept m before now step s k =
     let few : length now.steps.items ≤ 128 = omega (arith, ap length k.steps, length-take 128 (before.steps.items ++ step ∷ [])) in
-    loaded-with m before now s k.lows k.highs k.least k.most (rw k.queue s.sized.queue) (rw k.queue refl) (rw k.trail s.trail) few k.room
+    loaded-with m before now s k.lows k.highs k.least k.most k.spread (rw k.queue s.sized.queue) (rw k.queue refl) (rw k.trail s.trail) few k.room
 
-pub loaded-from : (m : IntegerModel) (now : Engine) (box : Box) → IsSized m now → box_in now ≡ box → is_empty box ≡ false → All IsBound now.low.items → All IsBound now.high.items → AreLeast (rows_of m) box now.least.items → AreGreatest (rows_of m) box now.most.items → now.trail.items ≡ [] → IsLoaded m now
-loaded-from m now box sized e o lows highs least most none = record {
+pub loaded-from : (m : IntegerModel) (now : Engine) (box : Box) → IsSized m now → box_in now ≡ box → is_empty box ≡ false → All IsBound now.low.items → All IsBound now.high.items → AreLeast (rows_of m) box now.least.items → AreGreatest (rows_of m) box now.most.items → AreSpreads (rows_of m) box now.spread.items → now.trail.items ≡ [] → IsLoaded m now
+loaded-from m now box sized e o lows highs least most spreads none = record {
   sized = sized;
   lows = lows;
   highs = highs;
   occupied = rw e o;
   least = rw e least;
   most = rw e most;
+  spread = rw e spreads;
   trail = rw none (All-nil (IsChange m));
 }
 

@@ -6,6 +6,7 @@ pub mod Examples
 pub mod SumChanges
 pub mod CutLemmas
 pub mod SumLists
+pub mod SpreadLists
 pub mod StepRuns
 pub mod EngineLemmas
 pub mod StillLemmas

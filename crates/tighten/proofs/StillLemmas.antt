@@ -10,8 +10,7 @@ use Rattle.int_model.specs.Programs.{Terms, AreTerms}
 use Rattle.int_model.specs.Models.{IntegerModel}
 use Rattle.int_model.specs.RowSums.{coefficient, least_product, greatest_product, least_sum, greatest_sum, without}
 use Rattle.int_model.specs.declared.model.Ends.{Ends}
-use Rattle.int_model.proofs.IntegerLaws.{neg-mul}
-use Rattle.activity.proofs.ProductLemmas.{ends-above, ends-below}
+use Rattle.activity.specs.Sums.{SpreadWithin}
 use Rattle.activity.proofs.SumLemmas.{ordered}
 use Rattle.tighten.specs.declared.engine.Change.{Change}
 use Rattle.tighten.specs.declared.engine.Engine.{Engine}
@@ -24,7 +23,7 @@ use Rattle.tighten.specs.Steps.{rows_of}
 use Rattle.tighten.proofs.CutLemmas.{cut-none}
 use Rattle.tighten.proofs.EngineLemmas.{below-is, above-is, same-left}
 use Rattle.tighten.proofs.OtherTerms.{coefficient-at, least_sum-split, greatest_sum-split}
-use Rattle.tighten.proofs.SumChanges.{sign_of, mul-sub}
+use Rattle.tighten.proofs.SumChanges.{product-spread}
 
 -- ---- an engine without a change
 
@@ -103,16 +102,6 @@ term-stays n rows ends i terms k d box w room e all inside o slack is within =
 
 -- ---- a row whose ends allow each of its sums
 
-product_spread : (a : ℤ) (i : Interval) → i.low ≤ℤ i.high → greatest_product a i -ℤ least_product a i ≡ pos (unsigned_abs a) *ℤ (i.high -ℤ i.low)
-product_spread a i o = elim (sign_of a) [
-  | inl s ↦
-      let size : pos (unsigned_abs a) ≡ a = omega (arith, ints, s.0) in
-      omega (arith, ints, mul-sub a i.high i.low, (ends-above a i s.0 o).least, (ends-above a i s.0 o).greatest, ap (λ (z : ℤ). z *ℤ (i.high -ℤ i.low)) size)
-  | inr s ↦
-      let size : pos (unsigned_abs a) ≡ neg_ℤ a = omega (arith, ints, s.0) in
-      omega (arith, ints, mul-sub a i.high i.low, neg-mul a (i.high -ℤ i.low), (ends-below a i s.0 o).least, (ends-below a i s.0 o).greatest, ap (λ (z : ℤ). z *ℤ (i.high -ℤ i.low)) size)
-]
-
 ordered_sums : (ts : Terms) (box : Box) → least_sum ts box ≤ℤ greatest_sum ts box
 ordered_sums [] box = omega (arith, ints)
 ordered_sums ((j, a) ∷ ts) box =
@@ -121,13 +110,24 @@ ordered_sums ((j, a) ∷ ts) box =
 
 pub spread-within : (n : ℕ) (ts : Terms) (j : ℕ) (box : Box) → AreTerms 0 n ts → is_empty box ≡ false → (pos (unsigned_abs (coefficient j ts)) *ℤ ((interval_at box j).high -ℤ (interval_at box j).low)) ≤ℤ (greatest_sum ts box -ℤ least_sum ts box)
 spread-within n ts j box all o =
-    omega (arith, ints, product_spread (coefficient j ts) (interval_at box j) (ordered box j o), ordered_sums (without j ts) box, least_sum-split n j ts box all, greatest_sum-split n j ts box all)
+    omega (arith, ints, product-spread (coefficient j ts) (interval_at box j) (ordered box j o), ordered_sums (without j ts) box, least_sum-split n j ts box all, greatest_sum-split n j ts box all)
 
 pub redundant-stays : (n : ℕ) (rows : List Terms) (ends : List Ends) (i : ℕ) (box : Box) (room : ℤ) → AreTerms 0 n (slice_index_or rows i []) → is_empty box ≡ false → IsSlack (slice_index_or ends i (record { lower = None; upper = None })) (least_sum (slice_index_or rows i []) box) (greatest_sum (slice_index_or rows i []) box) room → (greatest_sum (slice_index_or rows i []) box -ℤ least_sum (slice_index_or rows i []) box) ≤ℤ room → RowStays rows ends i box
 redundant-stays n rows ends i box room all o h k j =
     let within = spread-within n (slice_index_or rows i []) j box all o in
     let small : (pos (unsigned_abs (coefficient j (slice_index_or rows i []))) *ℤ ((interval_at box j).high -ℤ (interval_at box j).low)) ≤ℤ room = omega (arith, ints, within, k) in
     column-stays n rows ends i j box (pos (unsigned_abs (coefficient j (slice_index_or rows i []))) *ℤ ((interval_at box j).high -ℤ (interval_at box j).low)) room all o h refl small
+
+-- the same where no term's spread is above the slack
+pub calm-stays : (n : ℕ) (rows : List Terms) (ends : List Ends) (i : ℕ) (box : Box) (w : ℕ) (room : ℤ) → AreTerms 0 n (slice_index_or rows i []) → is_empty box ≡ false → IsSlack (slice_index_or ends i (record { lower = None; upper = None })) (least_sum (slice_index_or rows i []) box) (greatest_sum (slice_index_or rows i []) box) room → SpreadWithin w (slice_index_or rows i []) box → pos w ≤ℤ room → RowStays rows ends i box
+calm-stays n rows ends i box w room all o h spread k =
+    row-stays rows ends i (slice_index_or rows i []) box (0, pos 0) refl
+    (λ t inside.
+    let a : ℤ = (slice_index_or (slice_index_or rows i []) t (0, pos 0)).1 in
+    let here : Interval = interval_at box (slice_index_or (slice_index_or rows i []) t (0, pos 0)).0 in
+    let size = product-spread (slice_index_or (slice_index_or rows i []) t (0, pos 0)).1 (interval_at box (slice_index_or (slice_index_or rows i []) t (0, pos 0)).0) (ordered box (slice_index_or (slice_index_or rows i []) t (0, pos 0)).0 o) in
+    let small : (pos (unsigned_abs (slice_index_or (slice_index_or rows i []) t (0, pos 0)).1) *ℤ ((interval_at box (slice_index_or (slice_index_or rows i []) t (0, pos 0)).0).high -ℤ (interval_at box (slice_index_or (slice_index_or rows i []) t (0, pos 0)).0).low)) ≤ℤ room = omega (arith, ints, size, spread t inside, k) in
+    term-stays n rows ends i (slice_index_or rows i []) t (0, pos 0) box _ room refl all inside o h refl small)
 
 -- ---- all rows
 

@@ -1,5 +1,5 @@
 -- How the sums of rows change where one column gets another interval.
-use Rattle.std.specs.Prelude.{◌≡◌, ◌⊎◌, ◌≢◌, ℕ, zero, suc, ◌+◌, ◌<◌, ℤ, pos, ◌+ℤ◌, ◌-ℤ◌, ◌*ℤ◌, ◌≤ℤ◌, ◌<ℤ◌, int_lt, Bool, true, false, cond, not, nat_eq, [], ◌∷◌, length, take, slice_index_or, slice_set, if◌then◌else◌, refl}
+use Rattle.std.specs.Prelude.{◌≡◌, ◌⊎◌, ◌≢◌, ℕ, zero, suc, ◌+◌, ◌<◌, ℤ, pos, ◌+ℤ◌, ◌-ℤ◌, ◌*ℤ◌, ◌≤ℤ◌, ◌<ℤ◌, neg_ℤ, unsigned_abs, int_lt, Bool, true, false, cond, not, nat_eq, [], ◌∷◌, length, take, slice_index_or, slice_set, if◌then◌else◌, refl}
 use Rattle.std.proofs.Common.{arith, add-one, ap, inl, inr}
 use Rattle.std.proofs.lemmas.Bool.Decides.{nat_tests}
 use Rattle.std.proofs.lemmas.Int.{ints}
@@ -7,7 +7,7 @@ use Rattle.int_model.specs.Integers.{int_sum_by}
 use Rattle.int_model.specs.Boxes.{Interval, Box, interval_at}
 use Rattle.int_model.specs.Programs.{Terms, AreTerms}
 use Rattle.int_model.specs.RowSums.{coefficient, without, least_product, greatest_product, least_sum, greatest_sum}
-use Rattle.int_model.proofs.IntegerLaws.{mul-add}
+use Rattle.int_model.proofs.IntegerLaws.{mul-add, neg-mul}
 use Rattle.activity.proofs.ProductLemmas.{ends-above, ends-below}
 use Rattle.tighten.specs.Sums.{change}
 use Rattle.tighten.proofs.OtherTerms.{column-above, least_sum-split, greatest_sum-split}
@@ -57,6 +57,17 @@ pub mul-sub : (a x y : ℤ) → a *ℤ (x -ℤ y) ≡ a *ℤ x -ℤ a *ℤ y
 mul-sub a x y =
     let whole : (x -ℤ y) +ℤ y ≡ x = omega (arith, ints) in
     omega (arith, ints, mul-add a (x -ℤ y) y, ap (λ (z : ℤ). a *ℤ z) whole)
+
+-- how far the two products lie apart
+pub product-spread : (a : ℤ) (i : Interval) → i.low ≤ℤ i.high → greatest_product a i -ℤ least_product a i ≡ pos (unsigned_abs a) *ℤ (i.high -ℤ i.low)
+product-spread a i o = elim (sign_of a) [
+  | inl s ↦
+      let size : pos (unsigned_abs a) ≡ a = omega (arith, ints, s.0) in
+      omega (arith, ints, mul-sub a i.high i.low, (ends-above a i s.0 o).least, (ends-above a i s.0 o).greatest, ap (λ (z : ℤ). z *ℤ (i.high -ℤ i.low)) size)
+  | inr s ↦
+      let size : pos (unsigned_abs a) ≡ neg_ℤ a = omega (arith, ints, s.0) in
+      omega (arith, ints, mul-sub a i.high i.low, neg-mul a (i.high -ℤ i.low), (ends-below a i s.0 o).least, (ends-below a i s.0 o).greatest, ap (λ (z : ℤ). z *ℤ (i.high -ℤ i.low)) size)
+]
 
 -- a product with one end in place of another
 moved : (a x y p q c : ℤ) → p ≡ a *ℤ x → q ≡ a *ℤ y → c ≡ a *ℤ (y -ℤ x) → q ≡ p +ℤ c

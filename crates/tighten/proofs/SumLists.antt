@@ -10,11 +10,11 @@ use Rattle.tighten.specs.Sums.{change}
 use Rattle.tighten.proofs.SumChanges.{coefficient-more, coefficient-before}
 
 -- one more place is filled
-pub filled : (P : ℕ → ℤ → Type 0) (xs : List ℤ) (k : ℕ) (v : ℤ) → k < length xs → ((i : ℕ) → i < k → P i (slice_index_or xs i (pos 0))) → P k v → (i : ℕ) → i < k + 1 → P i (slice_index_or (slice_set xs k v) i (pos 0))
-filled P xs k v inside before here =
+pub filled : {A : Type 0} (d : A) (P : ℕ → A → Type 0) (xs : List A) (k : ℕ) (v : A) → k < length xs → ((i : ℕ) → i < k → P i (slice_index_or xs i d)) → P k v → (i : ℕ) → i < k + 1 → P i (slice_index_or (slice_set xs k v) i d)
+filled d P xs k v inside before here =
     below_more _ k
-    (λ i h. let other : i ≢ k = omega arith in subst (P i) (sym (get_or-set_other xs k i v (pos 0) other)) (before i h))
-    (subst (P k) (sym (get_or-set_same xs k v (pos 0) inside)) here)
+    (λ i h. let other : i ≢ k = omega arith in subst (P i) (sym (get_or-set_other xs k i v d other)) (before i h))
+    (subst (P k) (sym (get_or-set_same xs k v d inside)) here)
 
 -- ---- the terms of a column, one after another
 
@@ -27,13 +27,13 @@ choose_true b x y e = rw e refl
 choose_false : (b : Bool) (x y : ℤ) → b ≡ false → (if b then x else y) ≡ y
 choose_false b x y e = rw e refl
 
-own_term : (n : ℕ) (ts : Terms) (k : ℕ) (d : ℕ × ℤ) → AreTerms 0 n ts → k < length ts → coefficient (slice_index_or ts k d).0 (take (k + 1) ts) ≡ (slice_index_or ts k d).1
+pub own_term : (n : ℕ) (ts : Terms) (k : ℕ) (d : ℕ × ℤ) → AreTerms 0 n ts → k < length ts → coefficient (slice_index_or ts k d).0 (take (k + 1) ts) ≡ (slice_index_or ts k d).1
 own_term n ts k d all inside =
     let j : ℕ = (slice_index_or ts k d).0 in
     let same : nat_eq (slice_index_or ts k d).0 (slice_index_or ts k d).0 ≡ true = grind (arith, nat_tests) in
     omega (arith, ints, coefficient-more ts (slice_index_or ts k d).0 k d inside, coefficient-before 0 n ts k d all inside, choose_true _ (slice_index_or ts k d).1 (pos 0) same)
 
-other_term : (ts : Terms) (k i : ℕ) (d : ℕ × ℤ) → k < length ts → nat_eq (slice_index_or ts k d).0 i ≡ false → coefficient i (take (k + 1) ts) ≡ coefficient i (take k ts)
+pub other_term : (ts : Terms) (k i : ℕ) (d : ℕ × ℤ) → k < length ts → nat_eq (slice_index_or ts k d).0 i ≡ false → coefficient i (take (k + 1) ts) ≡ coefficient i (take k ts)
 other_term ts k i d inside other =
     omega (arith, ints, coefficient-more ts i k d inside, choose_false _ (slice_index_or ts k d).1 (pos 0) other)
 

@@ -14,7 +14,7 @@ use Rattle.tighten.specs.Cuts.{interval}
 use Rattle.tighten.specs.Queues.{IsQueue}
 use Rattle.tighten.specs.Replay.{left_of, tightened, tightened_by}
 use Rattle.tighten.specs.Steps.{IsStep, rows_of}
-use Rattle.tighten.specs.Sums.{AreLeast, AreGreatest}
+use Rattle.tighten.specs.Sums.{AreLeast, AreGreatest, AreSpreads}
 
 abbrev pub box_in : Engine → Box
 box_in e = box_of e.low.items e.high.items
@@ -25,6 +25,7 @@ pub record IsSized (m : IntegerModel) (e : Engine) : Type 0 where
   pub highs : length e.high.items ≡ length m.columns
   pub least : length e.least.items ≡ length m.rows
   pub most : length e.most.items ≡ length m.rows
+  pub spread : length e.spread.items ≡ length m.rows
   pub queue : IsQueue e.queue
   pub waits : length e.queue.waits.items ≡ length m.rows
   pub few : length e.steps.items ≤ 128
@@ -37,7 +38,8 @@ pub record IsChange (m : IntegerModel) (c : Change) : Type 0 where
   pub high : IsBound c.high
   pub occupied : c.low ≤ℤ c.high
 
--- the box is within the limits and isn't empty, and the sums are those of the model's rows over it
+-- the box is within the limits and isn't empty, the sums are those of the model's rows over it, and no term's spread is
+-- above its row's
 pub record IsLoaded (m : IntegerModel) (e : Engine) : Type 0 where
   pub sized : IsSized m e
   pub lows : All IsBound e.low.items
@@ -45,6 +47,7 @@ pub record IsLoaded (m : IntegerModel) (e : Engine) : Type 0 where
   pub occupied : is_empty (box_in e) ≡ false
   pub least : AreLeast (rows_of m) (box_in e) e.least.items
   pub most : AreGreatest (rows_of m) (box_in e) e.most.items
+  pub spread : AreSpreads (rows_of m) (box_in e) e.spread.items
   pub trail : All (IsChange m) e.trail.items
 
 -- ---- changes
@@ -93,6 +96,7 @@ pub record IsKept (step : Step) (before now : Engine) : Type 0 where
   pub highs : now.high ≡ before.high
   pub least : now.least ≡ before.least
   pub most : now.most ≡ before.most
+  pub spread : now.spread ≡ before.spread
   pub queue : now.queue ≡ before.queue
   pub trail : now.trail ≡ before.trail
   pub steps : now.steps.items ≡ take 128 (before.steps.items ++ step ∷ [])

@@ -13,7 +13,7 @@ ghost use Rattle.tighten.specs.declared.engine.Engine.{Engine};
 
 use crate::narrowing::Narrowing;
 use crate::row_queue::RowQueue;
-use crate::slack::{above, below, slack, spread};
+use crate::slack::{above, allows, below, slack, spread, width};
 use crate::{RowEnd, Step, sums};
 use int_model::{Ends, Model, PointBox};
 use std::alloc::{AllocError, Global};
@@ -37,6 +37,8 @@ pub struct Engine {
     high: Vec<i32>,
     least: Vec<i64>,
     most: Vec<i64>,
+    // No term of the row has a wider spread.
+    spread: Vec<u64>,
     queue: RowQueue,
     trail: Vec<Change>,
     steps: Vec<Step>,
@@ -56,6 +58,7 @@ impl Engine {
             high: vec![in alloc; 0; columns]?,
             least: vec![in alloc; 0; rows]?,
             most: vec![in alloc; 0; rows]?,
+            spread: vec![in alloc; 0; rows]?,
             queue: RowQueue::new(alloc, rows)?,
             trail: Vec::new(alloc),
             steps: Vec::with_capacity(alloc, MOST_STEPS)?,
@@ -76,7 +79,13 @@ impl Engine {
         let _columns = model.columns();
         self.low.copy_from_slice(bounds.lows());
         self.high.copy_from_slice(bounds.highs());
-        sums::take(model, bounds, &mut self.least, &mut self.most);
+        sums::take(
+            model,
+            bounds,
+            &mut self.least,
+            &mut self.most,
+            &mut self.spread,
+        );
         self.queue.fill();
         self.trail.clear();
         self.steps.clear();
@@ -161,6 +170,7 @@ impl Engine {
             low_change,
             high_change,
         );
+        sums::widen(&mut self.spread, terms, width(low, high));
         self.low[place] = low;
         self.high[place] = high;
     }
@@ -231,6 +241,9 @@ impl Engine {
         let _columns = model.columns();
         let mut slack = self.slack_of(model, ends, row);
         if self.reach_of(model, row) <= slack {
+            return Ok(true);
+        }
+        if allows(slack, self.spread[row as usize]) {
             return Ok(true);
         }
         let line = model.row(row);

@@ -1,5 +1,5 @@
 // How far a row's slack narrows the interval of one of its columns.
-ghost use Rattle.std.specs.Prelude.{◌≡◌, ◌*◌, ◌^◌, ◌≤◌, ◌+ℤ◌, ◌-ℤ◌, ◌*ℤ◌, ◌≤ℤ◌, pos, unsigned_abs, IfSome};
+ghost use Rattle.std.specs.Prelude.{◌≡◌, ◌*◌, ◌^◌, ◌≤◌, ◌+ℤ◌, ◌-ℤ◌, ◌*ℤ◌, ◌≤ℤ◌, pos, unsigned_abs, IfSome, true};
 ghost use Rattle.int_model.specs.Limits.{IsBound, IsEntry};
 ghost use Rattle.int_model.specs.Ends.{EndsWithin};
 ghost use Rattle.int_model.specs.RowSums.{least_product};
@@ -20,6 +20,24 @@ pub fn spread(coefficient: i64, low: i32, high: i32) -> i64
     ensures limit { unsigned_abs result ≤ 2 * 10 ^ 15 }
 {
     coefficient.abs() * (i64::from(high) - i64::from(low))
+}
+
+/// How many numbers an interval has, less one.
+pub fn width(low: i32, high: i32) -> u64
+    requires low { IsBound low }
+    requires high { IsBound high }
+    requires occupied { low ≤ℤ high }
+    ensures value { pos result ≡ high -ℤ low }
+    ensures limit { result ≤ 2 * 10 ^ 6 }
+{
+    (i64::from(high) - i64::from(low)) as u64
+}
+
+/// Whether a spread is within the slack.
+pub fn allows(slack: i64, spread: u64) -> bool
+    ensures { result ≡ true → pos spread ≤ℤ slack }
+{
+    slack >= 0 && spread <= slack as u64
 }
 
 /// A slack that neither end of a row exceeds: how far its sum may rise above the least one, or fall below

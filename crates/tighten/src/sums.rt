@@ -1,31 +1,40 @@
-// The least and the greatest sums of all rows over a box.
+// The least and the greatest sums of all rows over a box, and how far their terms' products spread.
 ghost use Rattle.std.specs.Prelude.{◌≡◌, ◌*◌, ◌^◌, ◌≤◌, ◌+ℤ◌, ℕ, pos, unsigned_abs, length, slice_index_or, false};
 ghost use Rattle.int_model.specs.Limits.{IsEntry};
 ghost use Rattle.int_model.specs.Boxes.{is_empty};
 ghost use Rattle.int_model.specs.Programs.{AreTerms};
 ghost use Rattle.int_model.specs.RowSums.{coefficient};
 ghost use Rattle.tighten.specs.Steps.{rows_of};
-ghost use Rattle.tighten.specs.Sums.{AreLeast, AreGreatest, AreSmall, change};
+ghost use Rattle.tighten.specs.Sums.{AreLeast, AreGreatest, AreSpreads, AreSmall, change};
 
 use activity::extremes;
 use int_model::{Model, PointBox};
 
-/// Takes the sums of each row over a box.
-pub fn take(model: &Model, bounds: &PointBox, least: &mut [i64], most: &mut [i64])
+/// Takes the sums of each row over a box, and a number that no term's spread exceeds.
+pub fn take(
+    model: &Model,
+    bounds: &PointBox,
+    least: &mut [i64],
+    most: &mut [i64],
+    spread: &mut [u64],
+)
     requires columns { length bounds.now ≡ length model.now.columns }
     requires occupied { is_empty bounds.now ≡ false }
     requires least_count { length least.old ≡ length model.now.rows }
     requires most_count { length most.old ≡ length model.now.rows }
+    requires spread_count { length spread.old ≡ length model.now.rows }
     ensures least { AreLeast (rows_of model.now) bounds.now least.new }
     ensures most { AreGreatest (rows_of model.now) bounds.now most.new }
+    ensures spread { AreSpreads (rows_of model.now) bounds.now spread.new }
 {
     let _columns = model.columns();
     let lows = bounds.lows();
     let highs = bounds.highs();
     for row in 0..model.rows() {
-        let (low_sum, high_sum) = extremes(model.row(row).terms.as_slice(), lows, highs);
+        let (low_sum, high_sum, widest) = extremes(model.row(row).terms.as_slice(), lows, highs);
         least[row as usize] = low_sum;
         most[row as usize] = high_sum;
+        spread[row as usize] = widest;
     }
 }
 
@@ -49,6 +58,19 @@ pub fn shift(
     for &(row, coefficient) in terms {
         least[row as usize] += changed(coefficient, low_change, high_change);
         most[row as usize] += changed(coefficient, high_change, low_change);
+    }
+}
+
+/// Raises the numbers of a column's rows, so that they are at least the spreads of the column's terms
+/// over an interval of this width.
+pub fn widen(spread: &mut [u64], terms: &[(u32, i64)], width: u64)
+    requires rows { AreTerms 0 (length spread.old) terms.now }
+    requires width { width ≤ 2 * 10 ^ 6 }
+    ensures grown { (i : ℕ) → slice_index_or spread.old i 0 ≤ slice_index_or spread.new i 0 }
+    ensures wide { (i : ℕ) → unsigned_abs (coefficient i terms.now) * width ≤ slice_index_or spread.new i 0 }
+{
+    for &(row, coefficient) in terms {
+        spread[row as usize] |= coefficient.unsigned_abs() * width;
     }
 }
 

@@ -1,9 +1,10 @@
-use Rattle.std.proofs.Common.{arith, ◌≡◌, ◌∙◌, ap, sym, ℤ, ℕ, [], FitsSigned, w64}
+use Rattle.std.proofs.Common.{arith, ◌≡◌, ◌∙◌, ap, sym, subst, ℤ, ℕ, pos, [], FitsSigned, w64}
 use Rattle.std.specs.Prelude.{slice_index_or}
 use Rattle.std.proofs.lemmas.Int.{ints, to_z-of_z}
 use Rattle.int_model.specs.Boxes.{Box, box_of}
 use Rattle.int_model.specs.Programs.{Terms}
 use Rattle.int_model.specs.RowSums.{least_sum, greatest_sum}
+use Rattle.activity.specs.Sums.{SpreadWithin}
 use Rattle.tighten.specs.Steps.{rows_of}
 use Rattle.tighten.proofs.StepLemmas.{sides-of, terms-at}
 use Rattle.tighten.proofs.SumLists.{filled}
@@ -23,7 +24,10 @@ loop-row-preserved c =
     c.extremes-low_sum.ensures.least ∙ ap (λ (b : Box). least_sum c.as_slice.result.now b) box ∙ ap (λ (ts : Terms). least_sum ts c.args.bounds.now) (sym terms) in
     let most : c.extremes-low_sum.result.1 ≡ greatest_sum (slice_index_or (rows_of c.args.model.now) c.loop-row.row []) c.args.bounds.now =
     c.extremes-low_sum.ensures.most ∙ ap (λ (b : Box). greatest_sum c.as_slice.result.now b) box ∙ ap (λ (ts : Terms). greatest_sum ts c.args.bounds.now) (sym terms) in
+    let spread : SpreadWithin c.extremes-low_sum.result.2 (slice_index_or (rows_of c.args.model.now) c.loop-row.row []) c.args.bounds.now =
+    subst (λ (ts : Terms). SpreadWithin c.extremes-low_sum.result.2 ts c.args.bounds.now) (sym terms) (subst (SpreadWithin c.extremes-low_sum.result.2 c.as_slice.result.now) box c.extremes-low_sum.ensures.spread) in
     simp to_z-of_z (record {
-      least = filled (λ (i : ℕ) (z : ℤ). z ≡ least_sum (slice_index_or (rows_of c.args.model.now) i []) c.args.bounds.now) c.loop-row.least c.loop-row.row c.extremes-low_sum.result.0 (omega arith) c.loop-row.invariant.least least;
-      most = filled (λ (i : ℕ) (z : ℤ). z ≡ greatest_sum (slice_index_or (rows_of c.args.model.now) i []) c.args.bounds.now) c.loop-row.most c.loop-row.row c.extremes-low_sum.result.1 (omega arith) c.loop-row.invariant.most most;
+      least = filled (pos 0) (λ (i : ℕ) (z : ℤ). z ≡ least_sum (slice_index_or (rows_of c.args.model.now) i []) c.args.bounds.now) c.loop-row.least c.loop-row.row c.extremes-low_sum.result.0 (omega arith) c.loop-row.invariant.least least;
+      most = filled (pos 0) (λ (i : ℕ) (z : ℤ). z ≡ greatest_sum (slice_index_or (rows_of c.args.model.now) i []) c.args.bounds.now) c.loop-row.most c.loop-row.row c.extremes-low_sum.result.1 (omega arith) c.loop-row.invariant.most most;
+      spread = filled 0 (λ (i : ℕ) (w : ℕ). SpreadWithin w (slice_index_or (rows_of c.args.model.now) i []) c.args.bounds.now) c.loop-row.spread c.loop-row.row c.extremes-low_sum.result.2 (omega arith) c.loop-row.invariant.spread spread;
     })

@@ -3,7 +3,7 @@ use Rattle.std.proofs.lemmas.Int.{ints, to_z-of_z}
 use Rattle.int_model.specs.Boxes.{Interval, interval_at}
 use Rattle.int_model.proofs.BoxLaws.{box_of-set}
 use Rattle.tighten.specs.Engines.{box_in}
-use Rattle.tighten.proofs.EngineLemmas.{item-at, small-least, small-most, column-of, refilled, shifted-by, moved-loaded}
+use Rattle.tighten.proofs.EngineLemmas.{item-at, small-least, small-most, column-of, refilled, shifted-by, grown-by, wide-by, moved-loaded}
 use Rattle.tighten.proofs.engine.Engine.move_column.Goals as goal
 
 pub shift-requires-clause-least : goal.shift-requires-clause-least
@@ -83,6 +83,8 @@ returns-clause-loaded c =
     let most_count : length c.shift.new.most ≡ length c.args.self.now.most.items = c.shift.auto.most ∙ ap length c.deref_mut-2.ensures.value in
     let least_is = refilled c.args.self.now.least c.shift.new.least least_count in
     let most_is = refilled c.args.self.now.most c.shift.new.most most_count in
+    let spread_count : length c.widen.new.spread ≡ length c.args.self.now.spread.items = c.widen.auto.spread ∙ ap length c.deref_mut-3.ensures.value in
+    let spread_is = refilled c.args.self.now.spread c.widen.new.spread spread_count in
     simp to_z-of_z (moved-loaded c.args.model.now c.args.self.now _ c.args.column c.args.low c.args.high c.columns-columns.ensures.limits c.requires.loaded c.requires.column c.requires.low c.requires.high c.requires.occupied (record {
       lows = refl;
       highs = refl;
@@ -90,6 +92,11 @@ returns-clause-loaded c =
       most = shifted-by _ _ _ _ _ _ _ _ c.shift.new.most _ high_moved low_moved c.column_terms-terms.ensures.value c.deref_mut-2.ensures.value most_is most;
       least_count = ap length least_is ∙ least_count;
       most_count = ap length most_is ∙ most_count;
+      width = c.width.result;
+      is_width = simp to_z-of_z at c.width.ensures.value;
+      grown = λ i. grown-by _ _ _ c.widen.new.spread c.deref_mut-3.ensures.value spread_is c.widen.ensures.grown i;
+      wide = λ i. wide-by _ _ _ c.widen.new.spread c.width.result c.column_terms-terms.ensures.value spread_is c.widen.ensures.wide i;
+      spread_count = ap length spread_is ∙ spread_count;
       queue = refl;
       trail = refl;
       steps = refl;

@@ -1,6 +1,7 @@
 use Rattle.std.proofs.Common.{rules, arith, ◌≡◌, ◌∙◌, ap, sym, subst, true, false, ℕ, ℤ, pos, [], length, refl, below_more, ◌-ℤ◌, ◌≤ℤ◌, FitsSigned, w64}
 use Rattle.std.specs.Prelude.{slice_index_or}
 use Rattle.std.proofs.lemmas.Int.{ints, to_z-of_z}
+use Rattle.std.proofs.lemmas.List.{get_or_default}
 use Rattle.int_model.specs.Programs.{Terms, AreTerms}
 use Rattle.int_model.specs.RowSums.{coefficient, least_sum, greatest_sum}
 use Rattle.activity.proofs.SumLemmas.{term_at}
@@ -10,7 +11,7 @@ use Rattle.tighten.proofs.EngineLemmas.{row-terms, tightened-at_err, tightens-as
 use Rattle.tighten.proofs.OtherTerms.{coefficient-at}
 use Rattle.tighten.proofs.StepLemmas.{terms-at}
 use Rattle.tighten.proofs.StepRuns.{tightens-trans}
-use Rattle.tighten.proofs.StillLemmas.{grows, no-change, row-stays, term-stays, redundant-stays, still-as}
+use Rattle.tighten.proofs.StillLemmas.{grows, no-change, row-stays, term-stays, redundant-stays, calm-stays, still-as}
 use Rattle.tighten.proofs.engine.Engine.narrow_by_row.Goals as goal
 
 pub narrow_column-requires-clause-column : goal.narrow_column-requires-clause-column
@@ -48,6 +49,16 @@ returns-then-reach_of-slack-clause-still c few same =
     let ts : Terms = slice_index_or (rows_of c.args.model.now) c.args.row [] in
     let within : (greatest_sum (slice_index_or (rows_of c.args.model.now) c.args.row []) (box_in c.args.self.now) -ℤ least_sum (slice_index_or (rows_of c.args.model.now) c.args.row []) (box_in c.args.self.now)) ≤ℤ c.slack_of-slack.result = omega (arith, ints, test, c.reach_of.ensures) in
     (redundant-stays (length c.args.model.now.columns) (rows_of c.args.model.now) c.args.ends.now c.args.row (box_in c.args.self.now) c.slack_of-slack.result (row-terms c.args.model.now c.args.row c.columns-columns.ensures.limits) c.requires.loaded.occupied c.slack_of-slack.ensures within, refl)
+
+pub returns-then-allows-clause-steps : goal.returns-then-allows-clause-steps
+returns-then-allows-clause-steps c = tightens-same c.args.model.now c.args.ends.now c.args.self.now c.requires.loaded
+
+pub returns-then-allows-clause-still : goal.returns-then-allows-clause-still
+returns-then-allows-clause-still c few same =
+    let slack_fits : FitsSigned w64 c.slack_of-slack.result = search rules in
+    let within = simp to_z-of_z at (c.allows.ensures c.if-allows.true) in
+    let at : c.index.result.now ≡ slice_index_or c.args.self.now.spread.items c.args.row 0 = c.index.ensures ∙ get_or_default c.args.self.now.spread.items c.args.row _ 0 (omega (arith, c.requires.row, c.requires.loaded.sized.spread)) in
+    (calm-stays (length c.args.model.now.columns) (rows_of c.args.model.now) c.args.ends.now c.args.row (box_in c.args.self.now) (slice_index_or c.args.self.now.spread.items c.args.row 0) c.slack_of-slack.result (row-terms c.args.model.now c.args.row c.columns-columns.ensures.limits) c.requires.loaded.occupied c.slack_of-slack.ensures (c.requires.loaded.spread c.args.row) (omega (arith, ints, within, at)), refl)
 
 pub loop-column-init : goal.loop-column-init
 loop-column-init c =

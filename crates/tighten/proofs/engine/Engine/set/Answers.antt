@@ -28,7 +28,7 @@ move_column-requires-clause-loaded c =
       high = rw high_at facts.high_small;
       occupied = rw (low_at, high_at) facts.ordered;
     } in
-    loaded-with c.args.model.now c.args.self.now _ c.requires.loaded refl refl refl refl c.add_rows.ensures.queue c.add_rows.ensures.count
+    loaded-with c.args.model.now c.args.self.now _ c.requires.loaded refl refl refl refl refl c.add_rows.ensures.queue c.add_rows.ensures.count
     (rw pushed (All-push (IsChange c.args.model.now) c.args.self.now.trail.items change c.requires.loaded.trail is_change))
     c.requires.loaded.sized.few c.requires.loaded.sized.room
 
