@@ -11,13 +11,15 @@ pub mod laws;
 mod level;
 mod lists;
 mod start;
+mod tree;
 mod verdict;
 
 pub use cert::Cert;
 pub use judging::judge;
 pub use level::Level;
-pub use lists::{Steps, Vectors};
+pub use lists::{Levels, Steps, Vectors, Verdicts};
 pub use start::start_level;
+pub use tree::{Node, Tree};
 pub use verdict::Verdict;
 
 #[cfg(test)]
