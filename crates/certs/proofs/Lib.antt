@@ -9,4 +9,6 @@ pub mod TreeLaws
 pub mod TreeCounts
 pub mod TreeLevels
 pub mod ClaimLaws
+pub mod FitLemmas
 pub mod Examples
+pub mod TreeExamples

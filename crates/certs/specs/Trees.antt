@@ -19,15 +19,15 @@ use Rattle.certs.specs.declared.tree.Node.TheVariants.{Rest, Leaf, Split}
 
 -- ---- the limits and ranges of a certificate
 
-abbrev pub step_fits : Problem → Step → Bool
-step_fits p step = nat_lt step.row p.rows && nat_lt step.column p.columns
+abbrev pub step_within : ℕ → ℕ → Step → Bool
+step_within rows columns step = nat_lt step.row rows && nat_lt step.column columns
 
-abbrev pub vector_fits : Problem → Multipliers → Bool
-vector_fits p v = list_all (λ (e : Entry). nat_lt e.0 p.rows) v.entries
+abbrev pub vector_within : ℕ → Multipliers → Bool
+vector_within rows v = list_all (λ (e : Entry). nat_lt e.0 rows) v.entries
 
 -- at most 128 steps and two vectors, whose rows and columns are the problem's
 abbrev pub cert_fits : Problem → Cert → Bool
-cert_fits p cert = nat_le (length cert.steps) 128 && list_all (step_fits p) cert.steps && nat_le (length cert.vectors) 2 && list_all (vector_fits p) cert.vectors
+cert_fits p cert = nat_le (length cert.steps) 128 && list_all (step_within p.rows p.columns) cert.steps && nat_le (length cert.vectors) 2 && list_all (vector_within p.rows) cert.vectors
 
 -- ---- places
 
