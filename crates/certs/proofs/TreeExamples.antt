@@ -1,5 +1,5 @@
 -- Worked examples of trees and claims, by computing.
-use Rattle.std.specs.Prelude.{◌≡◌, ℕ, zero, suc, ℤ, pos, negsuc, true, false, IsTrue, List, [], ◌∷◌, ◌++◌, slice_get, slice_index_or, Option, Some, None, refl}
+use Rattle.std.specs.Prelude.{◌≡◌, ℕ, zero, suc, pos, negsuc, true, false, IsTrue, List, [], ◌∷◌, ◌++◌, slice_get, slice_index_or, Option, Some, None, refl}
 use Rattle.std.proofs.Common.{rules, subst, sym, ◌∙◌}
 use Rattle.int_model.specs.Boxes.{box_of}
 use Rattle.int_model.specs.Programs.{Program}

@@ -122,7 +122,7 @@ module _ (p : Problem) (limits : AllWithin p) (placed : List (Node × Place)) (t
       let inside : InBox place.box x = Inside-InBox t.within place.box x part.inside within in
       let r = raised-from place.box cert p.scenarios place.levels verdicts t.levels k s l t.raised_to found (kept-from stay t.levels k l level_is) in
       let level : AtMost (greater_level r.1 r.2) (value s x) = AtMost-greater r.1 r.2 (value s x) (own inside r.1 r.3) (judged-le p.columns p.rows s place.box cert r.0 r.2 x (record { within = limits k s found; feasible = f; inside = inside }) r.4) in
-      subst (λ (a : Level). AtMost a (value s x)) (sym r.5) level
+      subst (λ (a : Level). AtMost a (value s x)) (sym {b = greater_level r.1 r.2} r.5) level
 
   level_below : (d n : ℕ) → n < d → (node : Node) (q : Place) → slice_get placed n ≡ Some (node, q) → InBox q.box x → (l : Level) → slice_index_or q.levels k None ≡ Some l → AtMost l (value s x)
   level_below zero n h node q e i l g = absurd (omega arith)

@@ -39,7 +39,9 @@ impl Cert {
 fn steps_fit(steps: &[Step], rows: u32, columns: u32) -> bool
     ensures { result ≡ list_all (step_within rows columns) steps.now }
 {
-    steps.iter().all(|step| step.row < rows && step.column < columns)
+    steps
+        .iter()
+        .all(|step| step.row < rows && step.column < columns)
 }
 
 fn entries_fit(vector: &Vector, rows: u32) -> bool

@@ -1,5 +1,5 @@
-use Rattle.std.proofs.Common.{rules, ◌≡◌, ap, sym, ◌∙◌, false}
-use Rattle.std.specs.Prelude.{slice_get, option_copied, Some}
+use Rattle.std.proofs.Common.{ap, sym, ◌∙◌}
+use Rattle.std.specs.Prelude.{option_copied}
 use Rattle.certs.specs.Trees.{vector_within}
 use Rattle.certs.proofs.FitLemmas.{list_all-not}
 use Rattle.certs.proofs.cert.vectors_fit.Goals as goal
