@@ -4,4 +4,11 @@ pub mod ProblemLemmas
 pub mod CutLemmas
 pub mod StartLemmas
 pub mod ReplayLemmas
+pub mod BoxParts
+pub mod TreeLaws
+pub mod TreeCounts
+pub mod TreeLevels
+pub mod ClaimLaws
+pub mod FitLemmas
 pub mod Examples
+pub mod TreeExamples

@@ -1,12 +1,12 @@
 -- What the problem tells of a scenario's program.
-use Rattle.std.specs.Prelude.{◌≡◌, ℕ, zero, suc, ◌<◌, ◌≤◌, ℤ, pos, ◌<ℤ◌, ◌≤ℤ◌, int_lt, nat_lt, nat_eq, ◌&&◌, ◌||◌, Bool, true, false, cond, List, [], ◌∷◌, length, map, slice_get, slice_index_or, Some, None, refl}
+use Rattle.std.specs.Prelude.{◌≡◌, ℕ, zero, suc, ◌<◌, ◌≤◌, ℤ, pos, ◌<ℤ◌, ◌≤ℤ◌, int_lt, nat_lt, nat_eq, ◌&&◌, Bool, true, false, cond, List, [], ◌∷◌, length, map, slice_get, slice_index_or, Some, None, refl}
 use Rattle.std.proofs.Common.{arith, ap, sym, subst, ◌∙◌, get_or}
 use Rattle.std.proofs.lemmas.Int.{ints}
 use Rattle.std.proofs.lemmas.List.{get_or-map, length-map}
 use Rattle.std.proofs.lemmas.Option.{get_or_from_slice_get, slice_get_within}
 use Rattle.int_model.specs.Boxes.{Interval, Box, box_of}
 use Rattle.int_model.specs.Programs.{Program, Terms}
-use Rattle.int_model.specs.RowSums.{least_sum, greatest_sum, is_above, is_below, misses_ends, row_misses}
+use Rattle.int_model.specs.RowSums.{misses_ends, row_misses}
 use Rattle.int_model.specs.Models.{IntegerModel}
 use Rattle.int_model.specs.declared.model.Ends.{Ends}
 use Rattle.int_model.specs.declared.model.Row.{Row}

@@ -1,6 +1,7 @@
-// The lists of a certificate.
+// Lists of steps, of vectors, of verdicts and of levels.
 ghost use Rattle.std.specs.Prelude.{◌≡◌, ◌<◌, ◌≤◌, [], ◌∷◌, ◌++◌, length, slice_get, option_copied};
 
+use crate::{Level, Verdict};
 use dual_bounds::Vector;
 use smallvec::SmallVec;
 use std::alloc::Global;
@@ -102,5 +103,95 @@ impl Vectors {
         ensures { option_copied result ≡ slice_get self.now k }
     {
         self.places.as_slice().get(k)?.as_ref()
+    }
+}
+
+/// Verdicts of one certificate for several scenarios, in rising order of these.
+#[derive(Drop)]
+pub struct Verdicts {
+    items: Vec<Verdict>,
+}
+
+impl Model for Verdicts {
+    ghost use Rattle.std.specs.Prelude.{List};
+    ghost use Rattle.certs.specs.declared.verdict.Verdict.{Verdict};
+
+    ghost Value = { List Verdict };
+
+    ghost view = { λ s. s.items.items };
+}
+
+impl Verdicts {
+    /// The list of these items.
+    pub fn from_vec(items: Vec<Verdict>) -> Verdicts
+        ensures { result ≡ items.items }
+    {
+        Verdicts { items }
+    }
+
+    /// How many there are.
+    pub fn len(&self) -> usize
+        ensures { result ≡ length self.now }
+    {
+        self.items.len()
+    }
+
+    /// Item k, None where there are no more than k.
+    pub fn get(&self, k: usize) -> Option<&Verdict>
+        ensures { option_copied result ≡ slice_get self.now k }
+    {
+        self.items.get(k)
+    }
+
+    /// All items.
+    pub fn as_slice(&self) -> &[Verdict]
+        ensures { result.now ≡ self.now }
+    {
+        &self.items
+    }
+}
+
+/// A level for each scenario.
+#[derive(Drop)]
+pub struct Levels {
+    items: Vec<Level>,
+}
+
+impl Model for Levels {
+    ghost use Rattle.std.specs.Prelude.{List};
+    ghost use Rattle.certs.specs.declared.level.Level.{Level};
+
+    ghost Value = { List Level };
+
+    ghost view = { λ s. s.items.items };
+}
+
+impl Levels {
+    /// The list of these items.
+    pub fn from_vec(items: Vec<Level>) -> Levels
+        ensures { result ≡ items.items }
+    {
+        Levels { items }
+    }
+
+    /// How many there are.
+    pub fn len(&self) -> usize
+        ensures { result ≡ length self.now }
+    {
+        self.items.len()
+    }
+
+    /// Item k, None where there are no more than k.
+    pub fn get(&self, k: usize) -> Option<&Level>
+        ensures { option_copied result ≡ slice_get self.now k }
+    {
+        self.items.get(k)
+    }
+
+    /// All items.
+    pub fn as_slice(&self) -> &[Level]
+        ensures { result.now ≡ self.now }
+    {
+        &self.items
     }
 }
