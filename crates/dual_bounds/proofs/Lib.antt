@@ -1,6 +1,7 @@
 pub mod VectorLaws
 pub mod RefusalLaws
 pub mod ProductLemmas
-pub mod MergeLemmas
+pub mod EntryLemmas
+pub mod ShareLemmas
 pub mod SumLemmas
 pub mod Examples

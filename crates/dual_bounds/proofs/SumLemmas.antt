@@ -1,23 +1,13 @@
 -- The sum of a vector, column by column.
-use Rattle.std.specs.Prelude.{◌≡◌, ℕ, suc, ◌<◌, ℤ, pos, ◌+ℤ◌, ◌*ℤ◌, List, [], ◌∷◌, length, map, slice_index_or, drop, refl}
+use Rattle.std.specs.Prelude.{◌≡◌, ℕ, suc, ◌<◌, ℤ, pos, ◌+ℤ◌, List, ◌∷◌, length, map, slice_index_or, drop, refl}
 use Rattle.std.proofs.Common.{arith, ap, ◌∙◌}
 use Rattle.std.proofs.lemmas.Int.{ints}
 use Rattle.std.proofs.Math.Seq.{drop-cons}
 use Rattle.int_model.specs.Boxes.{Box, Interval, interval_at}
 use Rattle.int_model.specs.Programs.{Terms}
-use Rattle.int_model.specs.RowSums.{coefficient, least_product}
-use Rattle.int_model.specs.ByColumn.{column_terms}
-use Rattle.int_model.proofs.ByColumnLaws.{transposed}
+use Rattle.int_model.specs.RowSums.{least_product}
 use Rattle.int_model.proofs.BoxLaws.{lows-at, highs-at}
-use Rattle.dual_bounds.specs.Vectors.{Entry, share, reduced_cost, least_reduced}
-use Rattle.dual_bounds.specs.Merging.{column_share}
-
--- a column's terms tell its share
-pub share-transposed : (rows : List Terms) (j : ℕ) (es : List Entry) → column_share (column_terms j 0 rows) es ≡ share rows es j
-share-transposed rows j [] = refl
-share-transposed rows j (e ∷ es) =
-    let here : e.1 *ℤ coefficient e.0 (column_terms j 0 rows) ≡ e.1 *ℤ coefficient j (slice_index_or rows e.0 []) = ap (λ (z : ℤ). e.1 *ℤ z) (transposed rows e.0 j) in
-    omega (arith, ints, here, share-transposed rows j es)
+use Rattle.dual_bounds.specs.Vectors.{Entry, reduced_cost, least_reduced}
 
 -- one column more
 pub least-more : (rows : List Terms) (scale : ℕ) (es : List Entry) (costs : List ℤ) (box : Box) (k : ℕ) (whole s r t : ℤ) → k < length costs → k < length box → whole ≡ s +ℤ least_reduced rows scale es k (drop k costs) (drop k box) → r ≡ least_product (reduced_cost rows scale es k (slice_index_or costs k (pos 0))) (interval_at box k) → t ≡ s +ℤ r → whole ≡ t +ℤ least_reduced rows scale es (suc k) (drop (suc k) costs) (drop (suc k) box)

@@ -1,4 +1,4 @@
 pub mod Vectors
 pub mod Refusals
-pub mod Merging
+pub mod Counting
 pub mod Laws

@@ -3,8 +3,9 @@ ghost use Rattle.std.specs.Prelude.{◌≡◌, ◌^◌, ◌<◌, ◌≤◌, pos,
 ghost use Rattle.int_model.specs.Integers.{ceil_div};
 ghost use Rattle.dual_bounds.specs.Vectors.{RowsBelow, rows_of, vector_bound, vector_sum, within_range};
 
-use crate::Vector;
-use crate::parts::{end_sum, least_product, reduced_cost, share};
+use crate::parts::{end_sum, least_product, reduced_cost};
+use crate::shares::MAX_COLUMNS;
+use crate::{Vector, shares};
 use int_model::{Ends, Model, PointBox};
 
 const LIMIT: i128 = 1 << 60;
@@ -13,7 +14,7 @@ const LIMIT: i128 = 1 << 60;
 /// be minimised. An entry whose row hasn't got the end that the multiplier's sign asks for counts for
 /// nothing. It takes no memory.
 ///
-/// Its time is in proportion to the model's terms and, for each column, the vector's entries.
+/// Its time is in proportion to the columns and the terms of the vector's rows.
 pub fn evaluate(
     model: &Model,
     costs: &[i64],
@@ -34,9 +35,10 @@ pub fn evaluate(
     let scale = vector.scale();
     let entries = vector.entries();
     let mut sum = end_sum(ends, entries);
+    let mut shares = [0; MAX_COLUMNS];
+    shares::take(model, ends, entries, &mut shares);
     for (j, &cost) in costs.iter().enumerate() {
-        let in_rows = share(model.column_terms(j as u32), ends, entries);
-        let reduced = reduced_cost(scale, cost, in_rows);
+        let reduced = reduced_cost(scale, cost, shares[j]);
         sum += least_product(reduced, lows[j], highs[j]);
     }
     sum

@@ -7,6 +7,7 @@
 mod bounding;
 pub mod laws;
 mod parts;
+mod shares;
 mod vector;
 
 pub use bounding::{bound, evaluate};

@@ -1,10 +1,10 @@
 // The parts of a vector's sum.
-ghost use Rattle.std.specs.Prelude.{◌≡◌, ◌^◌, ◌<◌, ◌≤◌, ◌-ℤ◌, ◌*ℤ◌, pos, unsigned_abs, length, slice_index_or, drop, unwrap_or};
-ghost use Rattle.int_model.specs.Limits.{IsBound, IsEntry};
+ghost use Rattle.std.specs.Prelude.{◌≡◌, ◌^◌, ◌<◌, ◌≤◌, ◌-ℤ◌, ◌*ℤ◌, pos, unsigned_abs, length, unwrap_or};
+ghost use Rattle.int_model.specs.Limits.{IsBound};
 ghost use Rattle.int_model.specs.RowSums as sums;
 ghost use Rattle.dual_bounds.specs.Vectors as spec;
 ghost use Rattle.dual_bounds.specs.Vectors.{AreEntries, counted, RowsBelow};
-ghost use Rattle.dual_bounds.specs.Merging.{AreRising, IsMultiplier, IsPlace, column_share, counting};
+ghost use Rattle.dual_bounds.specs.Counting.{IsMultiplier, counting};
 
 use int_model::Ends;
 
@@ -47,34 +47,8 @@ pub fn end_sum(ends: &[Ends], entries: &[(u32, i64)]) -> i128
     sum
 }
 
-// The first place, from one on, whose row isn't before this row.
-fn place_of(terms: &[(u32, i64)], from: usize, row: u32) -> usize
-    requires { from ≤ length terms.now }
-    ensures { IsPlace terms.now from row result }
-{
-    let mut place = from;
-    while place < terms.len() && terms[place].0 < row {
-        place += 1;
-    }
-    place
-}
-
-// The coefficient of a row, where no row before it stands from the place on.
-fn coefficient_at(terms: &[(u32, i64)], place: usize, row: u32) -> i64
-    requires terms { AreRising terms.now }
-    requires reached { place < length terms.now → row ≤ (slice_index_or terms.now place (0, pos 0)).0 }
-    ensures value { result ≡ sums.coefficient row (drop place terms.now) }
-    ensures limit { IsEntry result }
-{
-    if place < terms.len() && terms[place].0 == row {
-        terms[place].1
-    } else {
-        0
-    }
-}
-
-// The multiplier, 0 where the row hasn't got its end.
-fn counting_multiplier(ends: &[Ends], row: u32, multiplier: i64) -> i64
+/// The multiplier, 0 where the row hasn't got its end.
+pub fn counting_multiplier(ends: &[Ends], row: u32, multiplier: i64) -> i64
     requires row { row < length ends.now }
     requires multiplier { IsMultiplier multiplier }
     ensures value { result ≡ counting ends.now (row, multiplier) }
@@ -84,36 +58,6 @@ fn counting_multiplier(ends: &[Ends], row: u32, multiplier: i64) -> i64
         Some(_) => multiplier,
         None => 0,
     }
-}
-
-// A multiplier times a coefficient.
-fn entry_product(multiplier: i64, coefficient: i64) -> i128
-    requires multiplier { IsMultiplier multiplier }
-    requires coefficient { IsEntry coefficient }
-    ensures value { result ≡ multiplier *ℤ coefficient }
-    ensures limit { unsigned_abs result ≤ 2 ^ 70 }
-{
-    i128::from(multiplier) * i128::from(coefficient)
-}
-
-/// The multipliers that count times the coefficients of a column, whose rows rise as those of the
-/// entries do.
-pub fn share(column: &[(u32, i64)], ends: &[Ends], entries: &[(u32, i64)]) -> i128
-    requires column { AreRising column.now }
-    requires few { length entries.now ≤ 128 }
-    requires entries { AreEntries 0 entries.now }
-    requires rows { RowsBelow (length ends.now) entries.now }
-    ensures value { result ≡ column_share column.now (counted ends.now entries.now) }
-    ensures limit { unsigned_abs result ≤ 2 ^ 77 }
-{
-    let mut sum = 0;
-    let mut place = 0;
-    for &(row, multiplier) in entries {
-        place = place_of(column, place, row);
-        let counted = counting_multiplier(ends, row, multiplier);
-        sum += entry_product(counted, coefficient_at(column, place, row));
-    }
-    sum
 }
 
 /// The cost of a column, times the scale, less its share of the rows.

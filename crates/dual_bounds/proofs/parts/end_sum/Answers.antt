@@ -2,7 +2,7 @@ use Rattle.std.proofs.Common.{arith, ◌≡◌, pos, ◌*ℤ◌, slice_index_or,
 use Rattle.std.specs.Prelude.{unwrap_or}
 use Rattle.std.proofs.lemmas.Int.{ints, to_z-of_z}
 use Rattle.dual_bounds.specs.Vectors.{Entry, side}
-use Rattle.dual_bounds.proofs.MergeLemmas.{entry-at, row-at, end-more}
+use Rattle.dual_bounds.proofs.EntryLemmas.{entry-at, row-at, end-more}
 use Rattle.dual_bounds.proofs.parts.end_sum.Goals as goal
 
 pub end_product-sum-requires-clause-row : goal.end_product-sum-requires-clause-row

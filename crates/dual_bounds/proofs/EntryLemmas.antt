@@ -9,17 +9,17 @@ use Rattle.int_model.specs.Programs.{Terms, AreTerms}
 use Rattle.int_model.specs.RowSums.{coefficient}
 use Rattle.int_model.specs.declared.model.Ends.{Ends}
 use Rattle.dual_bounds.specs.Vectors.{Entry, AreEntries, RowsBelow, side, counted, end_sum}
-use Rattle.dual_bounds.specs.Merging.{IsMultiplier, IsPlace, column_share, counting}
+use Rattle.dual_bounds.specs.Counting.{IsMultiplier}
 
 -- ---- a column's terms, which are beside their rows
 
-term-miss : (r : ℕ) (t : ℕ × ℤ) (ts : Terms) → nat_eq t.0 r ≡ false → coefficient r (t ∷ ts) ≡ coefficient r ts
+pub term-miss : (r : ℕ) (t : ℕ × ℤ) (ts : Terms) → nat_eq t.0 r ≡ false → coefficient r (t ∷ ts) ≡ coefficient r ts
 term-miss r t ts e = rw e (omega (arith, ints))
 
-term-hit : (r : ℕ) (t : ℕ × ℤ) (ts : Terms) → nat_eq t.0 r ≡ true → coefficient r (t ∷ ts) ≡ t.1 +ℤ coefficient r ts
+pub term-hit : (r : ℕ) (t : ℕ × ℤ) (ts : Terms) → nat_eq t.0 r ≡ true → coefficient r (t ∷ ts) ≡ t.1 +ℤ coefficient r ts
 term-hit r t ts e = rw e refl
 
-no-row : (r least n : ℕ) (ts : Terms) → AreTerms least n ts → r < least → coefficient r ts ≡ pos 0
+pub no-row : (r least n : ℕ) (ts : Terms) → AreTerms least n ts → r < least → coefficient r ts ≡ pos 0
 no-row r least n [] all h = refl
 no-row r least n (t ∷ ts) all h =
     let e : nat_eq t.0 r ≡ false = grind (arith, nat_tests, all.0) in
@@ -43,22 +43,8 @@ coefficient-here n ts k r d all h same =
     let rest : coefficient r (drop (suc k) ts) ≡ pos 0 = no-row r (t.0 + 1) n (drop (suc k) ts) (term-at 0 n ts k d all h).rest (omega (arith, same)) in
     ap (coefficient r) (drop-cons ts k d h) ∙ term-hit r t (drop (suc k) ts) e ∙ omega (arith, ints, rest)
 
--- the coefficient of a row before the one that stands at a place
-pub coefficient-before : (n : ℕ) (ts : Terms) (k r : ℕ) (d : ℕ × ℤ) → AreTerms 0 n ts → k < length ts → r < (slice_index_or ts k d).0 → coefficient r (drop k ts) ≡ pos 0
-coefficient-before n ts k r d all h less =
-    let t : ℕ × ℤ = slice_index_or ts k d in
-    let e : nat_eq t.0 r ≡ false = grind (arith, nat_tests, less) in
-    ap (coefficient r) (drop-cons ts k d h) ∙ term-miss r t (drop (suc k) ts) e ∙ no-row r (t.0 + 1) n (drop (suc k) ts) (term-at 0 n ts k d all h).rest (omega (arith, less))
-
 pub coefficient-past : (ts : Terms) (k r : ℕ) → length ts ≤ k → coefficient r (drop k ts) ≡ pos 0
 coefficient-past ts k r h = ap (coefficient r) (drop_of_length-le ts h)
-
--- a term of an earlier row may be passed
-pub pass-one : (ts : Terms) (k row : ℕ) (d : ℕ × ℤ) → k < length ts → (slice_index_or ts k d).0 < row → (r : ℕ) → row ≤ r → coefficient r (drop k ts) ≡ coefficient r (drop (suc k) ts)
-pass-one ts k row d h less r le =
-    let t : ℕ × ℤ = slice_index_or ts k d in
-    let e : nat_eq t.0 r ≡ false = grind (arith, nat_tests, less, le) in
-    ap (coefficient r) (drop-cons ts k d h) ∙ term-miss r t (drop (suc k) ts) e
 
 -- ---- entries
 
@@ -92,32 +78,3 @@ end-more ends es k d whole s r t h before is after =
 
 pub end-none : (ends : List Ends) (es : List Entry) (k : ℕ) → length es ≤ k → end_sum ends (counted ends (drop k es)) ≡ pos 0
 end-none ends es k h = ap (λ (xs : List Entry). end_sum ends (counted ends xs)) (drop_of_length-le es h)
-
--- ---- one entry more in a column's share
-
-share-step : (ends : List Ends) (column : Terms) (e : Entry) (es : List Entry) → column_share column (counted ends (e ∷ es)) ≡ counting ends e *ℤ coefficient e.0 column +ℤ column_share column (counted ends es)
-share-step ends column e es = by_side (side ends e)
-  where
-    by_side : (o : Option ℤ) → column_share column (cond (is_some o) (e ∷ counted ends es) (counted ends es)) ≡ cond (is_some o) e.1 (pos 0) *ℤ coefficient e.0 column +ℤ column_share column (counted ends es)
-    by_side None = omega (arith, ints)
-    by_side (Some w) = refl
-
--- entries see no row that lies before them
-share-same : (ends : List Ends) (a b : Terms) (least : ℕ) (es : List Entry) → AreEntries least es → ((r : ℕ) → least ≤ r → coefficient r a ≡ coefficient r b) → column_share a (counted ends es) ≡ column_share b (counted ends es)
-share-same ends a b least [] all same = refl
-share-same ends a b least (e ∷ es) all same =
-    let here : counting ends e *ℤ coefficient e.0 a ≡ counting ends e *ℤ coefficient e.0 b = ap (λ (z : ℤ). counting ends e *ℤ z) (same e.0 all.0) in
-    let rest : column_share a (counted ends es) ≡ column_share b (counted ends es) = share-same ends a b (e.0 + 1) es all.3 (λ r h. same r (omega (arith, h, all.0))) in
-    omega (arith, ints, share-step ends a e es, share-step ends b e es, here, rest)
-
-pub share-more : (ends : List Ends) (column : Terms) (es : List Entry) (k from place : ℕ) (d : Entry) (whole s r t : ℤ) → AreEntries 0 es → k < length es → IsPlace column from (slice_index_or es k d).0 place → whole ≡ s +ℤ column_share (drop from column) (counted ends (drop k es)) → r ≡ counting ends (slice_index_or es k d) *ℤ coefficient (slice_index_or es k d).0 (drop place column) → t ≡ s +ℤ r → whole ≡ t +ℤ column_share (drop place column) (counted ends (drop (suc k) es))
-share-more ends column es k from place d whole s r t all h p before is after =
-    let e : Entry = slice_index_or es k d in
-    let at : IsEntryAt e (drop (suc k) es) = entry-at 0 es k d all h in
-    let whole_step : column_share (drop from column) (counted ends (drop k es)) ≡ counting ends e *ℤ coefficient e.0 (drop from column) +ℤ column_share (drop from column) (counted ends (drop (suc k) es)) = ap (λ (xs : List Entry). column_share (drop from column) (counted ends xs)) (drop-cons es k d h) ∙ share-step ends (drop from column) e (drop (suc k) es) in
-    let here : counting ends e *ℤ coefficient e.0 (drop from column) ≡ counting ends e *ℤ coefficient e.0 (drop place column) = ap (λ (z : ℤ). counting ends e *ℤ z) (p.passed e.0 (omega arith)) in
-    let rest : column_share (drop from column) (counted ends (drop (suc k) es)) ≡ column_share (drop place column) (counted ends (drop (suc k) es)) = share-same ends (drop from column) (drop place column) (e.0 + 1) (drop (suc k) es) at.rest (λ r g. p.passed r (omega (arith, g))) in
-    omega (arith, ints, before, is, after, whole_step, here, rest)
-
-pub share-none : (ends : List Ends) (column : Terms) (es : List Entry) (k : ℕ) → length es ≤ k → column_share column (counted ends (drop k es)) ≡ pos 0
-share-none ends column es k h = ap (λ (xs : List Entry). column_share column (counted ends xs)) (drop_of_length-le es h)
