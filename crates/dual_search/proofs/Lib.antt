@@ -1,1 +1,3 @@
 pub mod TermLemmas
+pub mod EntryLemmas
+pub mod GainLemmas

@@ -69,7 +69,7 @@ shifted_other s t rest now w j ne =
     ap (λ (z : ℤ). int_at now j -ℤ s *ℤ z) (coefficient-other j t rest ne)
     ∙ ap (λ (z : ℤ). z -ℤ s *ℤ coefficient j rest) (sym (get_or-set_other now t.0 j w (pos 0) other))
 
-shifted-one : (s : ℤ) (t : ℕ × ℤ) (rest : Terms) (now : List ℤ) (w : ℤ) (j : ℕ) → t.0 < length now → w ≡ int_at now t.0 -ℤ s *ℤ t.1 → int_at now j -ℤ s *ℤ coefficient j (t ∷ rest) ≡ int_at (slice_set now t.0 w) j -ℤ s *ℤ coefficient j rest
+pub shifted-one : (s : ℤ) (t : ℕ × ℤ) (rest : Terms) (now : List ℤ) (w : ℤ) (j : ℕ) → t.0 < length now → w ≡ int_at now t.0 -ℤ s *ℤ t.1 → int_at now j -ℤ s *ℤ coefficient j (t ∷ rest) ≡ int_at (slice_set now t.0 w) j -ℤ s *ℤ coefficient j rest
 shifted-one s t rest now w j inside is = at (nat_eq t.0 j) refl
   where
     at : (b : Bool) → nat_eq t.0 j ≡ b → int_at now j -ℤ s *ℤ coefficient j (t ∷ rest) ≡ int_at (slice_set now t.0 w) j -ℤ s *ℤ coefficient j rest

@@ -17,6 +17,10 @@ entries_of i (y ∷ ys) = if int_eq y (pos 0) then entries_of (suc i) ys else (i
 abbrev pub vector_of : ℕ → List ℤ → Multipliers
 vector_of scale ys = record { scale = scale; entries = entries_of 0 ys }
 
+-- how many entries a multiplier makes
+abbrev pub entry_count : ℤ → ℕ
+entry_count y = if int_eq y (pos 0) then 0 else 1
+
 -- a program's reduced costs at these multipliers
 pub record AreReduced (p : Program) (scale : ℕ) (ys : List ℤ) (reduced : List ℤ) : Type 0 where
   pub count : length reduced ≡ length p.costs
