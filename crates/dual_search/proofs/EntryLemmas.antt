@@ -15,7 +15,7 @@ use Rattle.dual_search.proofs.TermLemmas.{coefficient-own, coefficient-other}
 
 -- ---- the number 0
 
-is-zero : (z : ℤ) → int_eq z (pos 0) ≡ true → z ≡ pos 0
+pub is-zero : (z : ℤ) → int_eq z (pos 0) ≡ true → z ≡ pos 0
 is-zero z e = (Decides-int_eq z (pos 0)).0 e
 
 not-zero : (z : ℤ) → int_eq z (pos 0) ≡ false → z ≢ pos 0
@@ -46,13 +46,28 @@ rows-below n k (y ∷ ys) le = by_test (rows-below n (suc k) ys (omega (arith, l
     by_test rest true = rest
     by_test rest false = (omega (arith, le), rest)
 
+-- multipliers of all rows are within the limit where their entries are
+pub multipliers-within : (least k : ℕ) (ys : List ℤ) (i : ℕ) → AreEntries least (entries_of k ys) → unsigned_abs (int_at ys i) ≤ 2 ^ 40
+multipliers-within least k [] i all = omega arith
+multipliers-within least k (y ∷ ys) zero all = by_test (int_eq y (pos 0)) refl all
+  where
+    by_test : (b : Bool) → int_eq y (pos 0) ≡ b → AreEntries least (cond b (entries_of (suc k) ys) ((k, y) ∷ entries_of (suc k) ys)) → unsigned_abs y ≤ 2 ^ 40
+    by_test true e h = let nought : y ≡ pos 0 = is-zero y e in omega (arith, ints, nought)
+    by_test false e h = h.1
+multipliers-within least k (y ∷ ys) (suc i) all =
+    by_test (λ n h. multipliers-within n (suc k) ys i h) (int_eq y (pos 0)) all
+  where
+    by_test : ((n : ℕ) → AreEntries n (entries_of (suc k) ys) → unsigned_abs (int_at ys i) ≤ 2 ^ 40) → (b : Bool) → AreEntries least (cond b (entries_of (suc k) ys) ((k, y) ∷ entries_of (suc k) ys)) → unsigned_abs (int_at ys i) ≤ 2 ^ 40
+    by_test rest true h = rest least h
+    by_test rest false h = rest (k + 1) h.3
+
 -- ---- one multiplier changes
 
 -- what an entry adds to the sum of f over those that count
-abbrev part : List Ends → (Entry → ℤ) → Entry → ℤ
+abbrev pub part : List Ends → (Entry → ℤ) → Entry → ℤ
 part ends f e = cond (is_some (side ends e)) (f e) (pos 0)
 
-counted-step : (ends : List Ends) (f : Entry → ℤ) (e : Entry) (es : List Entry) → int_sum_by f (counted ends (e ∷ es)) ≡ part ends f e +ℤ int_sum_by f (counted ends es)
+pub counted-step : (ends : List Ends) (f : Entry → ℤ) (e : Entry) (es : List Entry) → int_sum_by f (counted ends (e ∷ es)) ≡ part ends f e +ℤ int_sum_by f (counted ends es)
 counted-step ends f e es = by_side (is_some (side ends e))
   where
     by_side : (b : Bool) → int_sum_by f (cond b (e ∷ counted ends es) (counted ends es)) ≡ cond b (f e) (pos 0) +ℤ int_sum_by f (counted ends es)
@@ -96,7 +111,7 @@ end_sum-set ends ys i z h =
     let moved = rw (at, end-part ends (i, int_at ys i), end-part ends (i, z)) at raw in
     omega (arith, ints, moved)
 
-share-part : (ends : List Ends) (rows : List Terms) (j : ℕ) (e : Entry) → part ends (λ e. e.1 *ℤ coefficient j (slice_index_or rows e.0 [])) e ≡ counting ends e *ℤ coefficient j (slice_index_or rows e.0 [])
+pub share-part : (ends : List Ends) (rows : List Terms) (j : ℕ) (e : Entry) → part ends (λ e. e.1 *ℤ coefficient j (slice_index_or rows e.0 [])) e ≡ counting ends e *ℤ coefficient j (slice_index_or rows e.0 [])
 share-part ends rows j e = by_side (is_some (side ends e))
   where
     by_side : (b : Bool) → cond b (e.1 *ℤ coefficient j (slice_index_or rows e.0 [])) (pos 0) ≡ cond b e.1 (pos 0) *ℤ coefficient j (slice_index_or rows e.0 [])

@@ -1,3 +1,5 @@
 pub mod TermLemmas
 pub mod EntryLemmas
 pub mod GainLemmas
+pub mod LimitLemmas
+pub mod TotalLemmas

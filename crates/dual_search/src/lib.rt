@@ -4,7 +4,7 @@
 //! neighbours of a vector. How far the search climbs beyond its contract is claimed by nothing.
 #![tactic(auto)]
 
-ghost use Rattle.std.specs.Prelude.{◌≡◌, ◌<◌, ◌≤ℤ◌, length, All, IfOk};
+ghost use Rattle.std.specs.Prelude.{◌≡◌, ◌<◌, ◌≤◌, ◌≤ℤ◌, length, All, IfOk};
 ghost use Rattle.scenario_changes.specs.Problems.{problem as posed};
 ghost use Rattle.dual_bounds.specs.Vectors.{RowsBelow};
 ghost use Rattle.dual_search.specs.Totals.{total, IsAscended};
@@ -14,11 +14,23 @@ mod breakpoints;
 mod reduced_costs;
 
 use crate::ascent::Ascent;
+use crate::breakpoints::Breakpoints;
 use dual_bounds::Vector;
-use int_model::PointBox;
+use int_model::{Model, PointBox};
 use live_sets::LiveSet;
 use scenario_changes::Problem;
 use std::alloc::{AllocError, Global};
+
+// The most terms of a row.
+fn longest_row(model: &Model) -> usize
+    ensures { result ≤ 1000 }
+{
+    let mut longest = 0;
+    for row in 0..model.rows() {
+        longest = model.row(row).terms.len().max(longest);
+    }
+    longest
+}
 
 /// Ascends from a vector by moving the multiplier of one row at a time, to a vector whose total over
 /// the live scenarios, each on its box, is no less. It is greater where some neighbour of the start has
@@ -43,7 +55,9 @@ pub fn search(
     ensures greater { IfOk result (λ v. IsAscended (posed problem.now) live boxes.now start.now v) }
 {
     let mut ascent = Ascent::new(alloc, problem, live, start)?;
-    ascent.climb(problem, boxes)?;
+    let room = longest_row(problem.model()) * boxes.len();
+    let mut breakpoints = Breakpoints::new(alloc, room)?;
+    ascent.climb(problem, boxes, &mut breakpoints)?;
     ascent.vector(alloc)
 }
 

@@ -1,2 +1,2 @@
-use Rattle.dual_search.proofs.GainLemmas.{sum-moved}
-use Rattle.dual_search.proofs.EntryLemmas.{entries-told}
+use Rattle.dual_search.proofs.LimitLemmas.{reduced-small}
+use Rattle.dual_search.proofs.TotalLemmas.{apart-all, row-is}
