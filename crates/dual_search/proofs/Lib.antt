@@ -3,3 +3,4 @@ pub mod EntryLemmas
 pub mod GainLemmas
 pub mod LimitLemmas
 pub mod TotalLemmas
+pub mod AscentLemmas

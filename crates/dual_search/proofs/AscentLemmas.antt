@@ -1,0 +1,87 @@
+-- What an ascent keeps, read at one scenario.
+use Rattle.std.specs.Prelude.{◌≡◌, ℕ, ◌+◌, ◌*◌, ◌^◌, ◌<◌, ◌≤◌, ℤ, pos, ◌+ℤ◌, unsigned_abs, List, [], ◌∷◌, length, map, slice_index_or, slice_get, slice_set, Option, Some}
+use Rattle.std.proofs.Common.{arith, ap, sym, subst, ◌∙◌}
+use Rattle.std.proofs.lemmas.List.{get_or_read}
+use Rattle.int_model.specs.Integers.{int_at}
+use Rattle.int_model.specs.Boxes.{Box}
+use Rattle.int_model.specs.Programs.{Program, Terms, AreTerms}
+use Rattle.int_model.specs.RowSums.{row_at}
+use Rattle.int_model.specs.Models.{IntegerModel, IsRow}
+use Rattle.int_model.specs.declared.model.Ends.{Ends}
+use Rattle.int_model.specs.declared.model.Row.{Row}
+use Rattle.scenario_changes.specs.Problems.{Scenarios, IsWithin, AreWithin, problem, program_at}
+use Rattle.dual_bounds.specs.Vectors.{program_sum}
+use Rattle.dual_search.specs.Gains.{AreReduced, AreSmall, gain}
+use Rattle.dual_search.specs.Ascents.{AreBoxes, HasVector, IsCarried, vector_at, with_multiplier}
+use Rattle.dual_search.specs.declared.ascent.Ascent.{Ascent}
+use Rattle.dual_search.specs.declared.reduced_costs.ReducedCosts.{ReducedCosts}
+use Rattle.dual_search.proofs.GainLemmas.{sum-moved}
+use Rattle.dual_search.proofs.LimitLemmas.{reduced-small}
+use Rattle.dual_search.proofs.TotalLemmas.{program-within, row-is}
+
+pub few-terms : (least n : ℕ) (ts : Terms) → AreTerms least n ts → least ≤ n → length ts + least ≤ n
+few-terms least n [] all le = omega arith
+few-terms least n (t ∷ ts) all le = omega (arith, few-terms (t.0 + 1) n ts all.4 (omega (arith, all.1)), all.0)
+
+-- the k-th scenario of an ascent, and its reduced costs
+pub record IsScenarioAt (p : Scenarios) (a : Ascent) (k s : ℕ) (r : ReducedCosts) : Type 0 where
+  pub inside : k < length a.scenarios.items
+  pub number : slice_index_or a.scenarios.items k 0 ≡ s
+  pub below : s < length (problem p).scenarios
+  pub within : IsWithin (length p.model.columns) (length p.model.rows) (program_at (problem p) s)
+  pub reduced : AreReduced (program_at (problem p) s) a.scale a.multipliers.items r.costs.items
+  pub small : AreSmall r.costs.items
+  pub count : length r.costs.items ≡ length p.model.columns
+
+pub scenario-at : (p : Scenarios) (a : Ascent) (k s : ℕ) (r : ReducedCosts) → AreWithin (problem p) → IsCarried p a → k < length a.scenarios.items → s ≡ slice_index_or a.scenarios.items k s → r ≡ slice_index_or a.reduced.items k r → IsScenarioAt p a k s r
+scenario-at p a k s r within carried h number own =
+    let is : slice_index_or a.scenarios.items k 0 ≡ s = sym (get_or_read a.scenarios.items k s h number 0) in
+    let below : s < length (problem p).scenarios = subst (λ (n : ℕ). n < length (problem p).scenarios) is (carried.scenarios k 0 h) in
+    let q : Program = program_at (problem p) s in
+    let fits : IsWithin (length p.model.columns) (length p.model.rows) (program_at (problem p) s) = program-within p s within below in
+    let reduced : AreReduced (program_at (problem p) s) a.scale a.multipliers.items r.costs.items =
+        subst (λ (n : ℕ). AreReduced (program_at (problem p) n) a.scale a.multipliers.items r.costs.items) is
+        (subst (λ (x : ReducedCosts). AreReduced (program_at (problem p) (slice_index_or a.scenarios.items k 0)) a.scale a.multipliers.items x.costs.items) (sym own) (carried.reduced.values k r h)) in
+    record {
+      inside = h;
+      number = is;
+      below = below;
+      within = fits;
+      reduced = reduced;
+      small = reduced-small (program_at (problem p) s) a.scale a.multipliers.items r.costs.items fits.limits carried.vector.scale carried.vector.limits (omega (arith, carried.vector.entries, carried.vector.few)) reduced;
+      count = reduced.count ∙ fits.shape.costs;
+    }
+
+-- a row of the model, as the calls tell it
+pub record IsRowAt (p : Scenarios) (row : ℕ) (terms : Terms) : Type 0 where
+  pub terms_are : (s : ℕ) → s < length (problem p).scenarios → row_at (program_at (problem p) s) row ≡ terms
+  pub rising : AreTerms 0 (length p.model.columns) terms
+
+pub row-of : (p : Scenarios) (m : IntegerModel) (row : ℕ) (r : Row) (terms : Terms) → m ≡ p.model → slice_get m.rows row ≡ Some r → IsRow (length m.columns) r → terms ≡ r.terms → IsRowAt p row terms
+row-of p m row r terms same e is own = record {
+  terms_are = λ s h. row-is p s row m.rows r terms h (ap (λ (n : IntegerModel). n.rows) same) e own;
+  rising = subst (λ (ts : Terms). AreTerms 0 (length p.model.columns) ts) (sym own) (subst (λ (n : IntegerModel). AreTerms 0 (length n.columns) r.terms) same is.terms);
+}
+
+pub terms-reduced : (p : Scenarios) (a : Ascent) (k s row : ℕ) (r : ReducedCosts) (terms : Terms) → IsScenarioAt p a k s r → IsRowAt p row terms → AreTerms 0 (length r.costs.items) terms
+terms-reduced p a k s row r terms at line = subst (λ (n : ℕ). AreTerms 0 n terms) (sym at.count) line.rising
+
+-- a box among boxes
+pub box-columns : (p : Scenarios) (a : Ascent) (boxes : List Box) (k s : ℕ) (r : ReducedCosts) (box : Box) → IsScenarioAt p a k s r → AreBoxes p a boxes → box ≡ slice_index_or boxes k box → length box ≡ length p.model.columns
+box-columns p a boxes k s r box at all own =
+    ap (λ (b : Box). length b) own ∙ all.columns k box (omega (arith, at.inside, all.count))
+
+-- the gain of one scenario
+pub scenario-gain : (p : Scenarios) (a : Ascent) (boxes : List Box) (row k s : ℕ) (r : ReducedCosts) (box : Box) (terms : Terms) (ends : List Ends) (from to g : ℤ) → IsCarried p a → row < length p.model.rows → IsScenarioAt p a k s r → IsRowAt p row terms → length box ≡ length p.model.columns → ends ≡ (program_at (problem p) s).ends → from ≡ int_at a.multipliers.items row → g ≡ gain terms ends r.costs.items box row from to → program_sum (program_at (problem p) s) (with_multiplier a row to) box ≡ program_sum (program_at (problem p) s) (vector_at a) box +ℤ g
+scenario-gain p a boxes row k s r box terms ends from to g carried h at line columns of_ends of_from is =
+    let q : Program = program_at (problem p) s in
+    let inside : row < length a.multipliers.items = omega (arith, carried.rows, h) in
+    let own : AreTerms 0 (length (program_at (problem p) s).costs) (row_at (program_at (problem p) s) row) =
+        subst (λ (n : ℕ). AreTerms 0 n (row_at (program_at (problem p) s) row)) (sym at.within.shape.costs)
+        (subst (λ (ts : Terms). AreTerms 0 (length p.model.columns) ts) (sym (line.terms_are s at.below)) line.rising) in
+    sum-moved (program_at (problem p) s) a.scale a.multipliers.items row to r.costs.items box inside at.reduced own (columns ∙ sym at.within.shape.costs)
+    ∙ ap (λ (z : ℤ). program_sum (program_at (problem p) s) (vector_at a) box +ℤ z)
+    (ap (λ (ts : Terms). gain ts (program_at (problem p) s).ends r.costs.items box row (int_at a.multipliers.items row) to) (line.terms_are s at.below)
+    ∙ ap (λ (es : List Ends). gain terms es r.costs.items box row (int_at a.multipliers.items row) to) (sym of_ends)
+    ∙ ap (λ (z : ℤ). gain terms ends r.costs.items box row z to) (sym of_from)
+    ∙ sym is)

@@ -1,2 +1,0 @@
-use Rattle.dual_search.proofs.LimitLemmas.{reduced-small}
-use Rattle.dual_search.proofs.TotalLemmas.{apart-all, row-is}
