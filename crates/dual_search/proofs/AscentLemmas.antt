@@ -1,21 +1,22 @@
 -- What an ascent keeps, read at one scenario.
-use Rattle.std.specs.Prelude.{◌≡◌, ℕ, ◌+◌, ◌*◌, ◌^◌, ◌<◌, ◌≤◌, ℤ, pos, ◌+ℤ◌, unsigned_abs, List, [], ◌∷◌, length, map, slice_index_or, slice_get, slice_set, Option, Some}
-use Rattle.std.proofs.Common.{arith, ap, sym, subst, ◌∙◌}
-use Rattle.std.proofs.lemmas.List.{get_or_read}
+use Rattle.std.specs.Prelude.{◌≡◌, ◌≢◌, ℕ, ◌+◌, ◌*◌, ◌^◌, ◌<◌, ◌≤◌, ℤ, pos, ◌+ℤ◌, ◌-ℤ◌, ◌*ℤ◌, unsigned_abs, List, [], ◌∷◌, length, map, slice_index_or, slice_get, slice_set, Option, Some}
+use Rattle.std.proofs.Common.{arith, ap, sym, subst, ◌∙◌, below_more}
+use Rattle.std.proofs.lemmas.List.{get_or_read, get_or-set_same, get_or-set_other}
 use Rattle.int_model.specs.Integers.{int_at}
 use Rattle.int_model.specs.Boxes.{Box}
 use Rattle.int_model.specs.Programs.{Program, Terms, AreTerms}
-use Rattle.int_model.specs.RowSums.{row_at}
+use Rattle.int_model.specs.RowSums.{coefficient, row_at}
 use Rattle.int_model.specs.Models.{IntegerModel, IsRow}
 use Rattle.int_model.specs.declared.model.Ends.{Ends}
 use Rattle.int_model.specs.declared.model.Row.{Row}
 use Rattle.scenario_changes.specs.Problems.{Scenarios, IsWithin, AreWithin, problem, program_at}
 use Rattle.dual_bounds.specs.Vectors.{program_sum}
+use Rattle.dual_bounds.specs.Merging.{counting}
 use Rattle.dual_search.specs.Gains.{AreReduced, AreSmall, gain}
 use Rattle.dual_search.specs.Ascents.{AreBoxes, HasVector, IsCarried, vector_at, with_multiplier}
 use Rattle.dual_search.specs.declared.ascent.Ascent.{Ascent}
 use Rattle.dual_search.specs.declared.reduced_costs.ReducedCosts.{ReducedCosts}
-use Rattle.dual_search.proofs.GainLemmas.{sum-moved}
+use Rattle.dual_search.proofs.GainLemmas.{reduced-set, sum-moved}
 use Rattle.dual_search.proofs.LimitLemmas.{reduced-small}
 use Rattle.dual_search.proofs.TotalLemmas.{program-within, row-is}
 
@@ -85,3 +86,26 @@ scenario-gain p a boxes row k s r box terms ends from to g carried h at line col
     ∙ ap (λ (es : List Ends). gain terms es r.costs.items box row (int_at a.multipliers.items row) to) (sym of_ends)
     ∙ ap (λ (z : ℤ). gain terms ends r.costs.items box row z to) (sym of_from)
     ∙ sym is)
+
+-- the reduced costs of one scenario after a shift
+pub shifted-reduced : (p : Scenarios) (a : Ascent) (row k s : ℕ) (r : ReducedCosts) (after : List ℤ) (terms : Terms) (ends : List Ends) (from to : ℤ) → IsCarried p a → row < length p.model.rows → IsScenarioAt p a k s r → IsRowAt p row terms → ends ≡ (program_at (problem p) s).ends → from ≡ int_at a.multipliers.items row → length after ≡ length r.costs.items → ((j : ℕ) → int_at after j ≡ int_at r.costs.items j -ℤ (counting ends (row, to) -ℤ counting ends (row, from)) *ℤ coefficient j terms) → AreReduced (program_at (problem p) (slice_index_or a.scenarios.items k 0)) a.scale (slice_set a.multipliers.items row to) after
+shifted-reduced p a row k s r after terms ends from to carried h at line of_ends of_from count values =
+    let inside : row < length a.multipliers.items = omega (arith, carried.rows, h) in
+    subst (λ (n : ℕ). AreReduced (program_at (problem p) n) a.scale (slice_set a.multipliers.items row to) after) (sym at.number)
+    (reduced-set (program_at (problem p) s) a.scale a.multipliers.items row to r.costs.items after inside at.reduced count
+    (λ j. values j
+    ∙ ap (λ (es : List Ends). int_at r.costs.items j -ℤ (counting es (row, to) -ℤ counting es (row, from)) *ℤ coefficient j terms) of_ends
+    ∙ ap (λ (z : ℤ). int_at r.costs.items j -ℤ (counting (program_at (problem p) s).ends (row, to) -ℤ counting (program_at (problem p) s).ends (row, z)) *ℤ coefficient j terms) of_from
+    ∙ ap (λ (ts : Terms). int_at r.costs.items j -ℤ (counting (program_at (problem p) s).ends (row, to) -ℤ counting (program_at (problem p) s).ends (row, int_at a.multipliers.items row)) *ℤ coefficient j ts) (sym (line.terms_are s at.below))))
+
+-- one more of the reduced costs is done
+pub done-more : (P : ℕ → ReducedCosts → Type 0) (rs : List ReducedCosts) (k : ℕ) (r : ReducedCosts) → k < length rs → ((i : ℕ) (d : ReducedCosts) → i < k → P i (slice_index_or rs i d)) → P k r → (i : ℕ) (d : ReducedCosts) → i < k + 1 → P i (slice_index_or (slice_set rs k r) i d)
+done-more P rs k r inside before here i d h =
+    below_more (λ j. P j (slice_index_or (slice_set rs k r) j d)) k
+    (λ j g. let other : j ≢ k = omega arith in subst (P j) (sym (get_or-set_other rs k j r d other)) (before j d g))
+    (subst (P k) (sym (get_or-set_same rs k r d inside)) here) i h
+
+pub left-more : (rs first : List ReducedCosts) (k : ℕ) (r : ReducedCosts) → ((i : ℕ) (d : ReducedCosts) → k ≤ i → slice_index_or rs i d ≡ slice_index_or first i d) → (i : ℕ) (d : ReducedCosts) → k + 1 ≤ i → slice_index_or (slice_set rs k r) i d ≡ slice_index_or first i d
+left-more rs first k r before i d h =
+    let other : i ≢ k = omega (arith, h) in
+    get_or-set_other rs k i r d other ∙ before i d (omega (arith, h))
