@@ -1,7 +1,7 @@
 -- What an ascent keeps, read at one scenario.
-use Rattle.std.specs.Prelude.{◌≡◌, ◌≢◌, ℕ, ◌+◌, ◌*◌, ◌^◌, ◌<◌, ◌≤◌, ℤ, pos, ◌+ℤ◌, ◌-ℤ◌, ◌*ℤ◌, unsigned_abs, List, [], ◌∷◌, length, map, slice_index_or, slice_get, slice_set, Option, Some}
+use Rattle.std.specs.Prelude.{◌≡◌, ◌≢◌, ℕ, ◌+◌, ◌*◌, ◌^◌, ◌<◌, ◌≤◌, ℤ, pos, ◌+ℤ◌, ◌-ℤ◌, ◌*ℤ◌, unsigned_abs, List, [], ◌∷◌, length, map, slice_index_or, slice_get, slice_set, All, Option, Some}
 use Rattle.std.proofs.Common.{arith, ap, sym, subst, ◌∙◌, below_more}
-use Rattle.std.proofs.lemmas.List.{get_or_read, get_or-set_same, get_or-set_other}
+use Rattle.std.proofs.lemmas.List.{get_or_read, get_or-set_same, get_or-set_other, length-set as length-set-list}
 use Rattle.int_model.specs.Integers.{int_at}
 use Rattle.int_model.specs.Boxes.{Box}
 use Rattle.int_model.specs.Programs.{Program, Terms, AreTerms}
@@ -10,13 +10,15 @@ use Rattle.int_model.specs.Models.{IntegerModel, IsRow}
 use Rattle.int_model.specs.declared.model.Ends.{Ends}
 use Rattle.int_model.specs.declared.model.Row.{Row}
 use Rattle.scenario_changes.specs.Problems.{Scenarios, IsWithin, AreWithin, problem, program_at}
-use Rattle.dual_bounds.specs.Vectors.{program_sum}
+use Rattle.dual_bounds.specs.Vectors.{KeepsLimits, program_sum}
 use Rattle.dual_bounds.specs.Merging.{counting}
-use Rattle.dual_search.specs.Gains.{AreReduced, AreSmall, gain}
-use Rattle.dual_search.specs.Ascents.{AreBoxes, HasVector, IsCarried, vector_at, with_multiplier}
+use Rattle.dual_search.specs.Gains.{AreReduced, AreSmall, entries_of, entry_count, gain}
+use Rattle.dual_search.specs.Ascents.{AreAllReduced, AreBoxes, HasVector, IsCarried, vector_at, with_multiplier}
 use Rattle.dual_search.specs.declared.ascent.Ascent.{Ascent}
 use Rattle.dual_search.specs.declared.reduced_costs.ReducedCosts.{ReducedCosts}
 use Rattle.dual_search.proofs.GainLemmas.{reduced-set, sum-moved}
+use Rattle.dual_search.proofs.TermLemmas.{limit-set}
+use Rattle.dual_search.proofs.EntryLemmas.{are-entries, length-set, multipliers-within}
 use Rattle.dual_search.proofs.LimitLemmas.{reduced-small}
 use Rattle.dual_search.proofs.TotalLemmas.{program-within, row-is}
 
@@ -109,3 +111,56 @@ pub left-more : (rs first : List ReducedCosts) (k : ℕ) (r : ReducedCosts) → 
 left-more rs first k r before i d h =
     let other : i ≢ k = omega (arith, h) in
     get_or-set_other rs k i r d other ∙ before i d (omega (arith, h))
+
+-- ---- the vector with another multiplier
+
+pub limits-told : (a : Ascent) (row : ℕ) (to : ℤ) → row < length a.multipliers.items → KeepsLimits (with_multiplier a row to) → unsigned_abs to ≤ 2 ^ 40
+limits-told a row to h limits =
+    subst (λ (z : ℤ). unsigned_abs z ≤ 2 ^ 40) (get_or-set_same a.multipliers.items row to (pos 0) h)
+    (multipliers-within 0 0 (slice_set a.multipliers.items row to) row limits.entries)
+
+-- how many entries there are then
+pub entries-after : (a : Ascent) (row : ℕ) (from to : ℤ) (m n : ℕ) → HasVector a → row < length a.multipliers.items → from ≡ int_at a.multipliers.items row → m ≡ entry_count to → n ≡ entry_count from → length (entries_of 0 (slice_set a.multipliers.items row to)) + n ≡ a.entries + m
+entries-after a row from to m n v h is of_to of_from =
+    let count : n ≡ entry_count (int_at a.multipliers.items row) = of_from ∙ ap entry_count is in
+    omega (arith, v.entries, of_to, count, length-set 0 a.multipliers.items row to h)
+
+multiplier-set : (ys : List ℤ) (row : ℕ) (to : ℤ) → row < length ys → unsigned_abs to ≤ 2 ^ 40 → ((i : ℕ) → unsigned_abs (int_at ys i) ≤ 2 ^ 40) → (i : ℕ) → unsigned_abs (int_at (slice_set ys row to) i) ≤ 2 ^ 40
+multiplier-set ys row to h small within = limit-set ys row to (2 ^ 40) (2 ^ 40) h (omega arith) within small
+
+pub limits-kept : (a : Ascent) (row : ℕ) (to : ℤ) → HasVector a → row < length a.multipliers.items → unsigned_abs to ≤ 2 ^ 40 → length (entries_of 0 (slice_set a.multipliers.items row to)) ≤ 128 → KeepsLimits (with_multiplier a row to)
+limits-kept a row to v h small few = record {
+  scale = v.scale;
+  few = few;
+  entries = are-entries 0 0 (slice_set a.multipliers.items row to) (omega arith) (multiplier-set a.multipliers.items row to h small v.limits);
+}
+
+-- an ascent whose multiplier of a row has become another
+pub record IsMoved (p : Scenarios) (a b : Ascent) (row : ℕ) (to : ℤ) : Type 0 where
+  pub scale : b.scale ≡ a.scale
+  pub scenarios : b.scenarios.items ≡ a.scenarios.items
+  pub multipliers : b.multipliers.items ≡ slice_set a.multipliers.items row to
+  pub entries : b.entries ≡ length (entries_of 0 (slice_set a.multipliers.items row to))
+  pub reduced : AreAllReduced p a.scale (slice_set a.multipliers.items row to) a.scenarios.items b.reduced.items
+
+pub carried-moved : (p : Scenarios) (a b : Ascent) (row : ℕ) (to : ℤ) → IsCarried p a → row < length p.model.rows → KeepsLimits (with_multiplier a row to) → IsMoved p a b row to → IsCarried p b
+carried-moved p a b row to carried h limits moved =
+    let inside : row < length a.multipliers.items = omega (arith, carried.rows, h) in
+    let ys : List ℤ = slice_set a.multipliers.items row to in
+    let count : length b.multipliers.items ≡ length a.multipliers.items = ap (λ (l : List ℤ). length l) moved.multipliers ∙ length-set-list a.multipliers.items row to in
+    record {
+      vector = record {
+        scale = rw moved.scale carried.vector.scale;
+        few_rows = rw count carried.vector.few_rows;
+        limits = λ i. rw moved.multipliers (multiplier-set a.multipliers.items row to inside (limits-told a row to inside limits) carried.vector.limits i);
+        entries = moved.entries ∙ ap (λ (l : List ℤ). length (entries_of 0 l)) (sym moved.multipliers);
+        few = rw moved.entries limits.few;
+      };
+      scenarios = subst (λ (l : List ℕ). All (λ s. s < length (problem p).scenarios) l) (sym moved.scenarios) carried.scenarios;
+      few_scenarios = rw moved.scenarios carried.few_scenarios;
+      rows = count ∙ carried.rows;
+      reduced =
+        subst (λ (n : ℕ). AreAllReduced p n b.multipliers.items b.scenarios.items b.reduced.items) (sym moved.scale)
+        (subst (λ (l : List ℤ). AreAllReduced p a.scale l b.scenarios.items b.reduced.items) (sym moved.multipliers)
+        (subst (λ (l : List ℕ). AreAllReduced p a.scale (slice_set a.multipliers.items row to) l b.reduced.items) (sym moved.scenarios) moved.reduced));
+    }

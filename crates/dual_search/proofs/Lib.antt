@@ -4,3 +4,4 @@ pub mod GainLemmas
 pub mod LimitLemmas
 pub mod TotalLemmas
 pub mod AscentLemmas
+pub mod StartLemmas

@@ -21,6 +21,7 @@ with_multiplier a row y = vector_of a.scale (slice_set a.multipliers.items row y
 -- the multipliers make a vector within the limits, with so many entries
 pub record HasVector (a : Ascent) : Type 0 where
   pub scale : a.scale ≤ 2 ^ 20
+  pub few_rows : length a.multipliers.items ≤ 1000
   pub limits : (i : ℕ) → unsigned_abs (int_at a.multipliers.items i) ≤ 2 ^ 40
   pub entries : a.entries ≡ length (entries_of 0 a.multipliers.items)
   pub few : a.entries ≤ 128

@@ -1,5 +1,5 @@
 // The ascent: the multipliers of all rows, and the reduced costs of each scenario that belong to them.
-ghost use Rattle.std.specs.Prelude.{◌≡◌, ◌↔◌, ◌^◌, ◌<◌, ◌≤◌, ◌+ℤ◌, ◌≤ℤ◌, length, slice_set, All, IfOk, OnOk, IsTrue};
+ghost use Rattle.std.specs.Prelude.{◌≡◌, ◌↔◌, ◌^◌, ◌<◌, ◌≤◌, ◌+ℤ◌, ◌≤ℤ◌, ℕ, pos, length, slice_set, All, IfOk, OnOk, IsTrue};
 ghost use Rattle.scenario_changes.specs.Problems.{problem as posed};
 ghost use Rattle.dual_bounds.specs.Vectors.{KeepsLimits, RowsBelow};
 ghost use Rattle.dual_bounds.specs.Merging.{IsMultiplier};
@@ -52,7 +52,7 @@ impl Ascent {
         ensures carried { IfOk result (IsCarried problem.now) }
         ensures scale { IfOk result (λ a. a.scale ≡ scale) }
         ensures scenarios { IfOk result (λ a. a.scenarios.items ≡ live) }
-        ensures entries { IfOk result (λ a. gains.entries_of 0 a.multipliers.items ≡ []) }
+        ensures multipliers { IfOk result (λ a. (i : ℕ) → int_at a.multipliers.items i ≡ pos 0) }
     {
         let scenarios: Vec<u32> = live.iter().collect(alloc)?;
         let mut reduced = Vec::with_capacity(alloc, scenarios.len())?;
