@@ -150,7 +150,7 @@ none-before i least (e ∷ es) all h =
 entry-same : (e : Entry) (k : ℕ) (y : ℤ) → e.0 ≡ k → e.1 ≡ y → e ≡ (k, y)
 entry-same e k y p q = ap (λ (i : ℕ). let f : Entry = (i, e.1) in f) p ∙ ap (λ (z : ℤ). let f : Entry = (k, z) in f) q
 
-zero-entries : (k : ℕ) (y : ℤ) (ys : List ℤ) → y ≡ pos 0 → entries_of k (y ∷ ys) ≡ entries_of (suc k) ys
+pub zero-entries : (k : ℕ) (y : ℤ) (ys : List ℤ) → y ≡ pos 0 → entries_of k (y ∷ ys) ≡ entries_of (suc k) ys
 zero-entries k y ys e =
     let t : int_eq y (pos 0) ≡ true = zero-test y e in
     rw t refl

@@ -5,3 +5,4 @@ pub mod LimitLemmas
 pub mod TotalLemmas
 pub mod AscentLemmas
 pub mod StartLemmas
+pub mod ZeroLemmas

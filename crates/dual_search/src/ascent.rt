@@ -39,6 +39,21 @@ fn entry_count(multiplier: i64) -> usize
     if multiplier == 0 { 0 } else { 1 }
 }
 
+// The members of a set.
+fn members(alloc: Global, live: LiveSet) -> Result<Vec<u32>, AllocError>
+    ensures { IfOk result (λ v. v.items ≡ live) }
+{
+    live.iter().collect(alloc)
+}
+
+// So many zeros.
+fn zeros(alloc: Global, count: u32) -> Result<Vec<i64>, AllocError>
+    ensures count { IfOk result (λ v. length v.items ≡ count) }
+    ensures values { IfOk result (λ v. (i : ℕ) → int_at v.items i ≡ pos 0) }
+{
+    vec![in alloc; 0; count as usize]
+}
+
 impl Ascent {
     // The vector without entries.
     fn at_zero(
@@ -54,12 +69,12 @@ impl Ascent {
         ensures scenarios { IfOk result (λ a. a.scenarios.items ≡ live) }
         ensures multipliers { IfOk result (λ a. (i : ℕ) → int_at a.multipliers.items i ≡ pos 0) }
     {
-        let scenarios: Vec<u32> = live.iter().collect(alloc)?;
-        let mut reduced = Vec::with_capacity(alloc, scenarios.len())?;
+        let scenarios = members(alloc, live)?;
+        let mut reduced = Vec::with_capacity(alloc, live.count() as usize)?;
         for &s in &scenarios {
             reduced.push(ReducedCosts::new(alloc, scale, problem.costs(s))?)?;
         }
-        let multipliers = vec![in alloc; 0; problem.model().rows() as usize]?;
+        let multipliers = zeros(alloc, problem.model().rows())?;
         Ok(Ascent {
             scale,
             scenarios,
