@@ -3,10 +3,10 @@ use Rattle.std.specs.Prelude.{◌≡◌, ◌≢◌, ℕ, zero, suc, ◌+◌, ◌
 use Rattle.std.proofs.Common.{arith, ap, sym, subst, ◌∙◌}
 use Rattle.std.proofs.lemmas.Bool.Decides.{nat_tests}
 use Rattle.std.proofs.lemmas.Int.{ints}
-use Rattle.std.proofs.lemmas.List.{get_or-set_same, get_or-set_other, length-set}
+use Rattle.std.proofs.lemmas.List.{get_or-set_same, get_or-set_other, take_all}
 use Rattle.int_model.specs.Integers.{int_at}
 use Rattle.int_model.specs.RowSums.{coefficient}
-use Rattle.dual_bounds.specs.Vectors.{Entry, AreEntries, RowsBelow, KeepsLimits}
+use Rattle.dual_bounds.specs.Vectors.{Entry, Multipliers, AreEntries, RowsBelow, KeepsLimits}
 use Rattle.dual_search.specs.Gains.{entries_of, vector_of}
 use Rattle.dual_search.proofs.TermLemmas.{coefficient-own, coefficient-other}
 use Rattle.dual_search.proofs.EntryLemmas.{entries-told}
@@ -94,3 +94,12 @@ told-limits scale es k ys s few all below t =
       few = subst (λ (l : List Entry). length l ≤ 128) is (omega (arith, few, take-length k es));
       entries = subst (λ (l : List Entry). AreEntries 0 l) is (take-entries 0 k es all);
     }
+
+pub told-none : (es : List Entry) (ys : List ℤ) → ((i : ℕ) → int_at ys i ≡ pos 0) → AreTold es 0 ys
+told-none es ys none = record { told = none }
+
+-- all entries are told
+pub told-start : (scale : ℕ) (v : Multipliers) (es : List Entry) (k : ℕ) (ys : List ℤ) → scale ≡ v.scale → es ≡ v.entries → AreEntries 0 es → RowsBelow (length ys) es → length es ≤ k → AreTold es k ys → vector_of scale ys ≡ v
+told-start scale v es k ys s e all below h t =
+    ap (λ (n : ℕ). vector_of n ys) s
+    ∙ ap (λ (l : List Entry). let w : Multipliers = record { scale = v.scale; entries = l } in w) (told-entries es k ys all below t ∙ take_all k es h ∙ e)
