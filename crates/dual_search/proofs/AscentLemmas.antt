@@ -1,6 +1,7 @@
 -- What an ascent keeps, read at one scenario.
 use Rattle.std.specs.Prelude.{◌≡◌, ◌≢◌, ℕ, ◌+◌, ◌*◌, ◌^◌, ◌<◌, ◌≤◌, ℤ, pos, ◌+ℤ◌, ◌-ℤ◌, ◌*ℤ◌, unsigned_abs, List, [], ◌∷◌, length, map, slice_index_or, slice_get, slice_set, All, Option, Some}
-use Rattle.std.proofs.Common.{arith, ap, sym, subst, ◌∙◌, below_more}
+use Rattle.std.proofs.Common.{arith, ap, sym, subst, ◌∙◌, below_more, FitsSigned, w64, of_z, to_z}
+use Rattle.std.proofs.lemmas.Int.{ints, to_z-of_z}
 use Rattle.std.proofs.lemmas.List.{get_or_read, get_or-set_same, get_or-set_other, length-set as length-set-list}
 use Rattle.int_model.specs.Integers.{int_at}
 use Rattle.int_model.specs.Boxes.{Box}
@@ -12,7 +13,7 @@ use Rattle.int_model.specs.declared.model.Row.{Row}
 use Rattle.scenario_changes.specs.Problems.{Scenarios, IsWithin, AreWithin, problem, program_at}
 use Rattle.dual_bounds.specs.Vectors.{KeepsLimits, program_sum}
 use Rattle.dual_bounds.specs.Merging.{counting}
-use Rattle.dual_search.specs.Gains.{AreReduced, AreSmall, entries_of, entry_count, gain}
+use Rattle.dual_search.specs.Gains.{AreReduced, AreSmall, entries_of, entry_count, gain, vector_of}
 use Rattle.dual_search.specs.Ascents.{AreAllReduced, AreBoxes, HasVector, IsCarried, vector_at, with_multiplier}
 use Rattle.dual_search.specs.declared.ascent.Ascent.{Ascent}
 use Rattle.dual_search.specs.declared.reduced_costs.ReducedCosts.{ReducedCosts}
@@ -164,3 +165,15 @@ carried-moved p a b row to carried h limits moved =
         (subst (λ (l : List ℤ). AreAllReduced p a.scale l b.scenarios.items b.reduced.items) (sym moved.multipliers)
         (subst (λ (l : List ℕ). AreAllReduced p a.scale (slice_set a.multipliers.items row to) l b.reduced.items) (sym moved.scenarios) moved.reduced));
     }
+
+pub vector-moved : (a b : Ascent) (row : ℕ) (to : ℤ) → b.scale ≡ a.scale → b.multipliers.items ≡ slice_set a.multipliers.items row to → vector_at b ≡ with_multiplier a row to
+vector-moved a b row to s e =
+    ap (λ (n : ℕ). vector_of n b.multipliers.items) s ∙ ap (λ (l : List ℤ). vector_of a.scale l) e
+
+-- the neighbouring multiplier, as the code has it
+pub near-is : (from x u v : ℤ) → x ≡ from → u ≡ v → unsigned_abs from ≤ 2 ^ 40 → unsigned_abs v ≤ 1 → to_z w64 (of_z w64 (to_z w64 (of_z w64 x) +ℤ to_z w64 (of_z w64 u))) ≡ from +ℤ v
+near-is from x u v e f small few =
+    let from_fits : FitsSigned w64 from = omega (arith, ints, small) in
+    let unit_fits : FitsSigned w64 v = omega (arith, ints, few) in
+    let sum_fits : FitsSigned w64 (from +ℤ v) = omega (arith, ints, small, few) in
+    rw (e, f, to_z-of_z w64 from from_fits, to_z-of_z w64 v unit_fits) (to_z-of_z w64 (from +ℤ v) sum_fits)

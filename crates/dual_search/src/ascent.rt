@@ -1,5 +1,5 @@
 // The ascent: the multipliers of all rows, and the reduced costs of each scenario that belong to them.
-ghost use Rattle.std.specs.Prelude.{◌≡◌, ◌↔◌, ◌^◌, ◌<◌, ◌≤◌, ◌+ℤ◌, ◌≤ℤ◌, ℕ, pos, length, slice_set, All, IfOk, OnOk, IsTrue};
+ghost use Rattle.std.specs.Prelude.{◌≡◌, ◌↔◌, ◌^◌, ◌<◌, ◌≤◌, ◌+ℤ◌, ◌≤ℤ◌, ℕ, pos, unsigned_abs, length, slice_set, All, IfOk, OnOk, IsTrue};
 ghost use Rattle.scenario_changes.specs.Problems.{problem as posed};
 ghost use Rattle.dual_bounds.specs.Vectors.{KeepsLimits, RowsBelow};
 ghost use Rattle.dual_bounds.specs.Merging.{IsMultiplier};
@@ -37,6 +37,14 @@ fn entry_count(multiplier: i64) -> usize
     ensures limit { result ≤ 1 }
 {
     if multiplier == 0 { 0 } else { 1 }
+}
+
+// The least change of a multiplier to one side.
+fn unit_step(upwards: bool) -> i64
+    ensures value { result ≡ unit upwards }
+    ensures limit { unsigned_abs result ≤ 1 }
+{
+    if upwards { 1 } else { -1 }
 }
 
 // The members of a set.
@@ -281,8 +289,8 @@ impl Ascent {
         ensures same { IsSameSearch self.old self.new }
         ensures climbs { Climbs (IsTopAt problem.now self.old boxes.now row (unit upwards)) problem.now boxes.now self.old result self.new }
     {
-        let unit = if upwards { 1 } else { -1 };
-        let near = self.multipliers[row as usize] + unit;
+        let step = unit_step(upwards);
+        let near = self.multipliers[row as usize] + step;
         if !self.admits(row, near) {
             return Ok(false);
         }
@@ -291,7 +299,7 @@ impl Ascent {
         }
         let far = self.candidate(problem, boxes, breakpoints, row, upwards)?;
         let best = self.better(problem, boxes, row, near, far);
-        let best = self.better(problem, boxes, row, best, far.saturating_add(unit));
+        let best = self.better(problem, boxes, row, best, far.saturating_add(step));
         self.set(problem, row, best);
         Ok(true)
     }
