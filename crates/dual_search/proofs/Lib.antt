@@ -6,3 +6,4 @@ pub mod TotalLemmas
 pub mod AscentLemmas
 pub mod StartLemmas
 pub mod ZeroLemmas
+pub mod PassLemmas

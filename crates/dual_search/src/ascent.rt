@@ -340,9 +340,7 @@ impl Ascent {
     {
         let mut moved = false;
         for row in 0..problem.model().rows() {
-            if self.climb_row(problem, boxes, breakpoints, row)? {
-                moved = true;
-            }
+            moved |= self.climb_row(problem, boxes, breakpoints, row)?;
         }
         Ok(moved)
     }
