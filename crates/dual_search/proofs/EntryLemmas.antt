@@ -18,7 +18,7 @@ use Rattle.dual_search.proofs.TermLemmas.{coefficient-own, coefficient-other}
 pub is-zero : (z : ℤ) → int_eq z (pos 0) ≡ true → z ≡ pos 0
 is-zero z e = (Decides-int_eq z (pos 0)).0 e
 
-not-zero : (z : ℤ) → int_eq z (pos 0) ≡ false → z ≢ pos 0
+pub not-zero : (z : ℤ) → int_eq z (pos 0) ≡ false → z ≢ pos 0
 not-zero z e same = absurd (both_ways (int_eq z (pos 0)) e ((Decides-int_eq z (pos 0)).1 same))
 
 zero-test : (z : ℤ) → z ≡ pos 0 → int_eq z (pos 0) ≡ true
@@ -155,7 +155,7 @@ zero-entries k y ys e =
     let t : int_eq y (pos 0) ≡ true = zero-test y e in
     rw t refl
 
-other-entries : (k : ℕ) (y : ℤ) (ys : List ℤ) → y ≢ pos 0 → entries_of k (y ∷ ys) ≡ (k, y) ∷ entries_of (suc k) ys
+pub other-entries : (k : ℕ) (y : ℤ) (ys : List ℤ) → y ≢ pos 0 → entries_of k (y ∷ ys) ≡ (k, y) ∷ entries_of (suc k) ys
 other-entries k y ys e =
     let t : int_eq y (pos 0) ≡ false = other-test y e in
     rw t refl

@@ -7,3 +7,4 @@ pub mod AscentLemmas
 pub mod StartLemmas
 pub mod ZeroLemmas
 pub mod PassLemmas
+pub mod NeighbourLemmas

@@ -66,16 +66,3 @@ passed-more p boxes before now after n false false f g m h =
 pub passed-all : (p : Scenarios) (boxes : List Box) (before after : Ascent) (n : ℕ) (moved : Bool) → length p.model.rows ≤ n → Passed p boxes before after n moved → Climbs (IsTop p before boxes) p boxes before (Ok moved) after
 passed-all p boxes before after n true h m = m
 passed-all p boxes before after n false h m = (m.0, λ row g. m.1 row (omega (arith, g, h)))
-
--- ---- a second pass
-
-pub climbed-once : (p : Scenarios) (boxes : List Box) (before after : Ascent) → Climbs (IsTop p before boxes) p boxes before (Ok false) after → HasClimbed p boxes before after
-climbed-once p boxes before after h = inr h
-
-pub climbed-twice : (p : Scenarios) (boxes : List Box) (before now after : Ascent) (again : Bool) → IsSameSearch before now → IsSameSearch now after → Climbs (IsTop p before boxes) p boxes before (Ok true) now → Climbs (IsTop p now boxes) p boxes now (Ok again) after → HasClimbed p boxes before after
-climbed-twice p boxes before now after true f g h k =
-    let grown : total_of p before boxes (vector_at now) <ℤ total_of p before boxes (vector_at after) =
-        subst (λ (l : List ℕ). total (problem p) l boxes (vector_at now) <ℤ total (problem p) l boxes (vector_at after)) f.scenarios k in
-    inl (omega (arith, ints, h, grown))
-climbed-twice p boxes before now after false f g h k =
-    inl (subst (λ (v : Multipliers). total_of p before boxes (vector_at before) <ℤ total_of p before boxes v) (sym (same_vector now after g k.0)) h)

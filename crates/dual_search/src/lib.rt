@@ -58,7 +58,8 @@ pub fn search(
     let room = longest_row(problem.model()) * boxes.len();
     let mut breakpoints = Breakpoints::new(alloc, room)?;
     ascent.climb(problem, boxes, &mut breakpoints)?;
-    ascent.vector(alloc)
+    let vector = ascent.vector(alloc)?;
+    Ok(vector)
 }
 
 #[cfg(test)]
