@@ -44,8 +44,8 @@ scenario-at p a k s r within carried h number own =
     let q : Program = program_at (problem p) s in
     let fits : IsWithin (length p.model.columns) (length p.model.rows) (program_at (problem p) s) = program-within p s within below in
     let reduced : AreReduced (program_at (problem p) s) a.scale a.multipliers.items r.costs.items =
-        subst (λ (n : ℕ). AreReduced (program_at (problem p) n) a.scale a.multipliers.items r.costs.items) is
-        (subst (λ (x : ReducedCosts). AreReduced (program_at (problem p) (slice_index_or a.scenarios.items k 0)) a.scale a.multipliers.items x.costs.items) (sym own) (carried.reduced.values k r h)) in
+    subst (λ (n : ℕ). AreReduced (program_at (problem p) n) a.scale a.multipliers.items r.costs.items) is
+    (subst (λ (x : ReducedCosts). AreReduced (program_at (problem p) (slice_index_or a.scenarios.items k 0)) a.scale a.multipliers.items x.costs.items) (sym own) (carried.reduced.values k r h)) in
     record {
       inside = h;
       number = is;
@@ -81,8 +81,8 @@ scenario-gain p a boxes row k s r box terms ends from to g carried h at line col
     let q : Program = program_at (problem p) s in
     let inside : row < length a.multipliers.items = omega (arith, carried.rows, h) in
     let own : AreTerms 0 (length (program_at (problem p) s).costs) (row_at (program_at (problem p) s) row) =
-        subst (λ (n : ℕ). AreTerms 0 n (row_at (program_at (problem p) s) row)) (sym at.within.shape.costs)
-        (subst (λ (ts : Terms). AreTerms 0 (length p.model.columns) ts) (sym (line.terms_are s at.below)) line.rising) in
+    subst (λ (n : ℕ). AreTerms 0 n (row_at (program_at (problem p) s) row)) (sym at.within.shape.costs)
+    (subst (λ (ts : Terms). AreTerms 0 (length p.model.columns) ts) (sym (line.terms_are s at.below)) line.rising) in
     sum-moved (program_at (problem p) s) a.scale a.multipliers.items row to r.costs.items box inside at.reduced own (columns ∙ sym at.within.shape.costs)
     ∙ ap (λ (z : ℤ). program_sum (program_at (problem p) s) (vector_at a) box +ℤ z)
     (ap (λ (ts : Terms). gain ts (program_at (problem p) s).ends r.costs.items box row (int_at a.multipliers.items row) to) (line.terms_are s at.below)
@@ -161,9 +161,9 @@ carried-moved p a b row to carried h limits moved =
       few_scenarios = rw moved.scenarios carried.few_scenarios;
       rows = count ∙ carried.rows;
       reduced =
-        subst (λ (n : ℕ). AreAllReduced p n b.multipliers.items b.scenarios.items b.reduced.items) (sym moved.scale)
-        (subst (λ (l : List ℤ). AreAllReduced p a.scale l b.scenarios.items b.reduced.items) (sym moved.multipliers)
-        (subst (λ (l : List ℕ). AreAllReduced p a.scale (slice_set a.multipliers.items row to) l b.reduced.items) (sym moved.scenarios) moved.reduced));
+          subst (λ (n : ℕ). AreAllReduced p n b.multipliers.items b.scenarios.items b.reduced.items) (sym moved.scale)
+          (subst (λ (l : List ℤ). AreAllReduced p a.scale l b.scenarios.items b.reduced.items) (sym moved.multipliers)
+          (subst (λ (l : List ℕ). AreAllReduced p a.scale (slice_set a.multipliers.items row to) l b.reduced.items) (sym moved.scenarios) moved.reduced));
     }
 
 pub vector-moved : (a b : Ascent) (row : ℕ) (to : ℤ) → b.scale ≡ a.scale → b.multipliers.items ≡ slice_set a.multipliers.items row to → vector_at b ≡ with_multiplier a row to

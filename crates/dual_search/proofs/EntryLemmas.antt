@@ -80,6 +80,7 @@ sum-step ends f none k y ys = by_test (int_eq y (pos 0)) refl
     nothing : (b : Bool) → cond b (f (k, pos 0)) (pos 0) ≡ pos 0
     nothing true = none k
     nothing false = refl
+
     by_test : (b : Bool) → int_eq y (pos 0) ≡ b → int_sum_by f (counted ends (cond b (entries_of (suc k) ys) ((k, y) ∷ entries_of (suc k) ys))) ≡ part ends f (k, y) +ℤ int_sum_by f (counted ends (entries_of (suc k) ys))
     by_test true e =
         let nought : y ≡ pos 0 = is-zero y e in
@@ -171,14 +172,19 @@ entries-told k (y ∷ ys) (e ∷ es) all below same =
   where
     at : k + 0 ≡ k
     at = omega arith
+
     first : coefficient k (e ∷ es) ≡ y
     first = subst (λ (n : ℕ). coefficient n (e ∷ es) ≡ y) at (same 0 (omega arith))
+
     after : (i : ℕ) → k + suc i ≡ suc k + i
     after i = omega arith
+
     count : k + length (y ∷ ys) ≡ suc k + length ys
     count = omega arith
+
     Told : List Entry → Type 0
     Told l = AreEntries (suc k) l → RowsBelow (suc k + length ys) l → ((i : ℕ) → i < length ys → coefficient (suc k + i) l ≡ int_at ys i) → l ≡ entries_of (suc k) ys
+
     by_row : Told es → Told (e ∷ es) → (b : Bool) → nat_eq e.0 k ≡ b → e ∷ es ≡ entries_of k (y ∷ ys)
     by_row told told_all true q =
         let here : e.0 ≡ k = grind (arith, nat_tests, q) in
@@ -188,7 +194,7 @@ entries-told k (y ∷ ys) (e ∷ es) all below same =
         let is : e.1 ≡ y = omega (arith, ints, first, own, none) in
         let other : y ≢ pos 0 = λ z. all.2 (is ∙ z) in
         let later : (i : ℕ) → i < length ys → coefficient (suc k + i) es ≡ int_at ys i = λ i h.
-            sym (coefficient-other (suc k + i) e es (omega (arith, here))) ∙ subst (λ (n : ℕ). coefficient n (e ∷ es) ≡ int_at ys i) (after i) (same (suc i) (omega (arith, h))) in
+        sym (coefficient-other (suc k + i) e es (omega (arith, here))) ∙ subst (λ (n : ℕ). coefficient n (e ∷ es) ≡ int_at ys i) (after i) (same (suc i) (omega (arith, h))) in
         let tail : es ≡ entries_of (suc k) ys = told rest (subst (λ (n : ℕ). RowsBelow n es) count below.1) later in
         ap (λ (l : List Entry). e ∷ l) tail ∙ ap (λ (f : Entry). f ∷ entries_of (suc k) ys) (entry-same e k y here is) ∙ sym (other-entries k y ys other)
     by_row told told_all false q =

@@ -66,6 +66,7 @@ reduced-small p scale ys reduced keeps h within few all j = by_place (nat_lt j (
         let scaled : unsigned_abs (pos scale *ℤ int_at p.costs j) ≤ 2 ^ 20 * 10 ^ 9 = product-limit (pos scale) (int_at p.costs j) (2 ^ 20) (10 ^ 9) h cost in
         let shared : unsigned_abs (share p.rows (counted p.ends (entries_of 0 ys)) j) ≤ length (entries_of 0 ys) * (2 ^ 40 * 10 ^ 9) = share-limit (length p.costs) p.rows p.ends j 0 (entries_of 0 ys) keeps.rows (are-entries 0 0 ys (omega arith) within) in
         omega (arith, ints, all.values j g, scaled, shared, few)
+
     by_place : (b : Bool) → nat_lt j (length p.costs) ≡ b → unsigned_abs (int_at reduced j) ≤ 2 ^ 80
     by_place true e = inside (grind (arith, nat_tests, e))
     by_place false e =

@@ -11,7 +11,7 @@ use Rattle.scenario_changes.specs.Problems.{Scenarios, problem}
 use Rattle.dual_bounds.specs.Vectors.{Entry, Multipliers, AreEntries, RowsBelow, KeepsLimits}
 use Rattle.dual_search.specs.Totals.{IsAscended, IsNeighbour, multiplier, total}
 use Rattle.dual_search.specs.Gains.{entries_of, vector_of}
-use Rattle.dual_search.specs.Ascents.{HasClimbed, IsCarried, IsSameSearch, IsTop, IsTopAt, total_of, unit, vector_at, with_multiplier}
+use Rattle.dual_search.specs.Ascents.{HasAscended, IsCarried, IsSameSearch, IsTop, IsTopAt, total_of, unit, vector_at, with_multiplier}
 use Rattle.dual_search.specs.declared.ascent.Ascent.{Ascent}
 use Rattle.dual_search.proofs.TermLemmas.{coefficient-own, coefficient-other}
 use Rattle.dual_search.proofs.EntryLemmas.{is-zero, zero-entries, other-entries, not-zero, entries-told, rows-below}
@@ -40,8 +40,10 @@ multiplier-at k zero (y ∷ ys) h = by_test (int_eq y (pos 0)) refl
   where
     at : k + 0 ≡ k
     at = omega arith
+
     none : coefficient (k + 0) (entries_of (suc k) ys) ≡ pos 0
     none = none-early (k + 0) (suc k) ys (omega arith)
+
     by_test : (b : Bool) → int_eq y (pos 0) ≡ b → coefficient (k + 0) (cond b (entries_of (suc k) ys) ((k, y) ∷ entries_of (suc k) ys)) ≡ y
     by_test true e = none ∙ sym (is-zero y e)
     by_test false e =
@@ -52,6 +54,7 @@ multiplier-at k (suc i) (y ∷ ys) h = by_test (multiplier-at (suc k) i ys (omeg
   where
     at : k + suc i ≡ suc k + i
     at = omega arith
+
     by_test : coefficient (suc k + i) (entries_of (suc k) ys) ≡ int_at ys i → (b : Bool) → coefficient (k + suc i) (cond b (entries_of (suc k) ys) ((k, y) ∷ entries_of (suc k) ys)) ≡ int_at ys i
     by_test rest true = subst (λ (n : ℕ). coefficient n (entries_of (suc k) ys) ≡ int_at ys i) (sym at) rest
     by_test rest false =
@@ -74,10 +77,13 @@ beside rows a w n count y change one = by_place (nat_lt n.row rows) refl
   where
     ys : List ℤ
     ys = a.multipliers.items
+
     at_row : (i : ℕ) → i < length a.multipliers.items → multiplier (vector_at a) i ≡ int_at a.multipliers.items i
     at_row i h = let z : 0 + i ≡ i = omega arith in subst (λ (j : ℕ). coefficient j (entries_of 0 a.multipliers.items) ≡ int_at a.multipliers.items i) z (multiplier-at 0 i a.multipliers.items h)
+
     to : ℤ
     to = int_at a.multipliers.items n.row +ℤ y
+
     inside_case : n.row < length a.multipliers.items → IsBeside a w n.row y
     inside_case h =
         let z : ℤ = int_at a.multipliers.items n.row +ℤ y in
@@ -86,9 +92,9 @@ beside rows a w n count y change one = by_place (nat_lt n.row rows) refl
         let whole : rows ≡ 0 + length (slice_set a.multipliers.items n.row z) = omega (arith, size) in
         let own : multiplier w n.row ≡ z = omega (arith, ints, change, at_row n.row h) in
         let values : (i : ℕ) → i < length (slice_set a.multipliers.items n.row z) → coefficient (0 + i) w.entries ≡ int_at (slice_set a.multipliers.items n.row z) i = λ i g.
-            let shift : i ≡ 0 + i = omega arith in
-            subst (λ (j : ℕ). coefficient j w.entries ≡ int_at (slice_set a.multipliers.items n.row z) i) shift
-            (by_row i (omega (arith, g, size, count)) h z own (nat_eq n.row i) refl) in
+        let shift : i ≡ 0 + i = omega arith in
+        subst (λ (j : ℕ). coefficient j w.entries ≡ int_at (slice_set a.multipliers.items n.row z) i) shift
+        (by_row i (omega (arith, g, size, count)) h z own (nat_eq n.row i) refl) in
         let told : w.entries ≡ entries_of 0 (slice_set a.multipliers.items n.row z) = entries-told 0 (slice_set a.multipliers.items n.row z) w.entries n.limits.entries (subst (λ (m : ℕ). RowsBelow m w.entries) whole n.rows_below) values in
         record {
           inside = h;
@@ -102,6 +108,7 @@ beside rows a w n count y change one = by_place (nat_lt n.row rows) refl
         by_row i g h z own false e =
             let other : i ≢ n.row = grind (arith, nat_tests, e) in
             n.elsewhere i other ∙ at_row i g ∙ sym (get_or-set_other a.multipliers.items n.row i z (pos 0) other)
+
     by_place : (b : Bool) → nat_lt n.row rows ≡ b → IsBeside a w n.row y
     by_place true e = inside_case (let h : n.row < rows = grind (arith, nat_tests, e) in omega (arith, h, count))
     by_place false e =
@@ -135,29 +142,29 @@ pub record IsAnswer (p : Scenarios) (live : List ℕ) (boxes : List Box) (start 
   pub least : total (problem p) live boxes start ≤ℤ total (problem p) live boxes v
   pub greater : IsAscended (problem p) live boxes start v
 
-climbed-least : (p : Scenarios) (boxes : List Box) (before after : Ascent) → IsSameSearch before after → HasClimbed p boxes before after → total_of p before boxes (vector_at before) ≤ℤ total_of p before boxes (vector_at after)
-climbed-least p boxes before after same (inl h) = omega (arith, ints, h)
-climbed-least p boxes before after same (inr h) =
+ascended-least : (p : Scenarios) (boxes : List Box) (before after : Ascent) → IsSameSearch before after → HasAscended p boxes before after → total_of p before boxes (vector_at before) ≤ℤ total_of p before boxes (vector_at after)
+ascended-least p boxes before after same (inl h) = omega (arith, ints, h)
+ascended-least p boxes before after same (inr h) =
     let e : vector_at after ≡ vector_at before = ap (λ (n : ℕ). vector_of n after.multipliers.items) same.scale ∙ ap (λ (l : List ℤ). vector_of before.scale l) h.0 in
     let t : total_of p before boxes (vector_at after) ≡ total_of p before boxes (vector_at before) = ap (λ (v : Multipliers). total_of p before boxes v) e in
     omega (arith, ints, t)
 
-climbed-greater : (p : Scenarios) (boxes : List Box) (before after : Ascent) (w : Multipliers) → IsCarried p before → HasClimbed p boxes before after → IsNeighbour (length p.model.rows) (vector_at before) w → total_of p before boxes (vector_at before) <ℤ total_of p before boxes w → total_of p before boxes (vector_at before) <ℤ total_of p before boxes (vector_at after)
-climbed-greater p boxes before after w carried (inl h) n greater = h
-climbed-greater p boxes before after w carried (inr h) n greater =
+ascended-greater : (p : Scenarios) (boxes : List Box) (before after : Ascent) (w : Multipliers) → IsCarried p before → HasAscended p boxes before after → IsNeighbour (length p.model.rows) (vector_at before) w → total_of p before boxes (vector_at before) <ℤ total_of p before boxes w → total_of p before boxes (vector_at before) <ℤ total_of p before boxes (vector_at after)
+ascended-greater p boxes before after w carried (inl h) n greater = h
+ascended-greater p boxes before after w carried (inr h) n greater =
     let no = top-neighbour p before boxes w carried h.1 n in
     absurd (omega (arith, ints, no, greater))
 
-answer-of : (p : Scenarios) (boxes : List Box) (before after : Ascent) → IsCarried p before → IsCarried p after → IsSameSearch before after → HasClimbed p boxes before after → IsAnswer p before.scenarios.items boxes (vector_at before) (vector_at after)
-answer-of p boxes before after old new same climbed = record {
+answer-of : (p : Scenarios) (boxes : List Box) (before after : Ascent) → IsCarried p before → IsCarried p after → IsSameSearch before after → HasAscended p boxes before after → IsAnswer p before.scenarios.items boxes (vector_at before) (vector_at after)
+answer-of p boxes before after old new same ascended = record {
   scale = same.scale;
   rows_below = rows-below (length p.model.rows) 0 after.multipliers.items (omega (arith, new.rows));
-  least = climbed-least p boxes before after same climbed;
-  greater = λ w n greater. climbed-greater p boxes before after w old climbed n greater;
+  least = ascended-least p boxes before after same ascended;
+  greater = λ w n greater. ascended-greater p boxes before after w old ascended n greater;
 }
 
-pub answer : (p : Scenarios) (live : List ℕ) (boxes : List Box) (start v : Multipliers) (before after : Ascent) → IsCarried p before → IsCarried p after → IsSameSearch before after → HasClimbed p boxes before after → before.scenarios.items ≡ live → vector_at before ≡ start → v ≡ vector_at after → IsAnswer p live boxes start v
-answer p live boxes start v before after old new same climbed of_live of_start is =
+pub answer : (p : Scenarios) (live : List ℕ) (boxes : List Box) (start v : Multipliers) (before after : Ascent) → IsCarried p before → IsCarried p after → IsSameSearch before after → HasAscended p boxes before after → before.scenarios.items ≡ live → vector_at before ≡ start → v ≡ vector_at after → IsAnswer p live boxes start v
+answer p live boxes start v before after old new same ascended of_live of_start is =
     subst (λ (x : Multipliers). IsAnswer p live boxes start x) (sym is)
     (subst (λ (x : Multipliers). IsAnswer p live boxes x (vector_at after)) of_start
-    (subst (λ (l : List ℕ). IsAnswer p l boxes (vector_at before) (vector_at after)) of_live (answer-of p boxes before after old new same climbed)))
+    (subst (λ (l : List ℕ). IsAnswer p l boxes (vector_at before) (vector_at after)) of_live (answer-of p boxes before after old new same ascended)))

@@ -9,7 +9,7 @@ use Rattle.scenario_changes.specs.Problems.{Scenarios, problem}
 use Rattle.dual_bounds.specs.Vectors.{Multipliers, KeepsLimits}
 use Rattle.dual_search.specs.Totals.{total}
 use Rattle.dual_search.specs.Gains.{vector_of}
-use Rattle.dual_search.specs.Ascents.{AreBoxes, IsSameSearch, IsTop, IsTopAt, IsTopOfRow, Climbs, HasClimbed, total_of, unit, vector_at}
+use Rattle.dual_search.specs.Ascents.{AreBoxes, IsSameSearch, IsTop, IsTopAt, IsTopOfRow, Ascends, HasAscended, total_of, unit, vector_at}
 use Rattle.dual_search.specs.declared.ascent.Ascent.{Ascent}
 
 pub same-search : (a b c : Ascent) → IsSameSearch a b → IsSameSearch b c → IsSameSearch a c
@@ -45,24 +45,26 @@ pub passed-none : (p : Scenarios) (boxes : List Box) (a : Ascent) → Passed p b
 passed-none p boxes a = (refl, λ row h. absurd (omega (arith, h)))
 
 -- one row more
-pub passed-more : (p : Scenarios) (boxes : List Box) (before now after : Ascent) (n : ℕ) (moved climbed : Bool) → IsSameSearch before now → IsSameSearch now after → Passed p boxes before now n moved → Climbs (IsTopOfRow p now boxes n) p boxes now (Ok climbed) after → Passed p boxes before after (n + 1) (moved || climbed)
+pub passed-more : (p : Scenarios) (boxes : List Box) (before now after : Ascent) (n : ℕ) (moved ascended : Bool) → IsSameSearch before now → IsSameSearch now after → Passed p boxes before now n moved → Ascends (IsTopOfRow p now boxes n) p boxes now (Ok ascended) after → Passed p boxes before after (n + 1) (moved || ascended)
 passed-more p boxes before now after n true true f g m h =
     let grown : total_of p before boxes (vector_at now) <ℤ total_of p before boxes (vector_at after) =
-        subst (λ (l : List ℕ). total (problem p) l boxes (vector_at now) <ℤ total (problem p) l boxes (vector_at after)) f.scenarios h in
+    subst (λ (l : List ℕ). total (problem p) l boxes (vector_at now) <ℤ total (problem p) l boxes (vector_at after)) f.scenarios h in
     omega (arith, ints, m, grown)
 passed-more p boxes before now after n true false f g m h =
     subst (λ (v : Multipliers). total_of p before boxes (vector_at before) <ℤ total_of p before boxes v) (sym (same_vector now after g h.0)) m
 passed-more p boxes before now after n false true f g m h =
     let grown : total_of p before boxes (vector_at now) <ℤ total_of p before boxes (vector_at after) =
-        subst (λ (l : List ℕ). total (problem p) l boxes (vector_at now) <ℤ total (problem p) l boxes (vector_at after)) f.scenarios h in
+    subst (λ (l : List ℕ). total (problem p) l boxes (vector_at now) <ℤ total (problem p) l boxes (vector_at after)) f.scenarios h in
     subst (λ (v : Multipliers). total_of p before boxes v <ℤ total_of p before boxes (vector_at after)) (same_vector before now f m.0) grown
-passed-more p boxes before now after n false false f g m h =
-    (h.0 ∙ m.0, below_more (λ row. IsTopOfRow p before boxes row) n m.1 (record {
-      above = top_same p before now boxes n (unit true) f m.0 h.1.above;
-      below = top_same p before now boxes n (unit false) f m.0 h.1.below;
-    }))
+passed-more p boxes before now after n false false f g m h = (
+  h.0 ∙ m.0,
+  below_more (λ row. IsTopOfRow p before boxes row) n m.1 (record {
+    above = top_same p before now boxes n (unit true) f m.0 h.1.above;
+    below = top_same p before now boxes n (unit false) f m.0 h.1.below;
+  }),
+)
 
 -- all rows
-pub passed-all : (p : Scenarios) (boxes : List Box) (before after : Ascent) (n : ℕ) (moved : Bool) → length p.model.rows ≤ n → Passed p boxes before after n moved → Climbs (IsTop p before boxes) p boxes before (Ok moved) after
+pub passed-all : (p : Scenarios) (boxes : List Box) (before after : Ascent) (n : ℕ) (moved : Bool) → length p.model.rows ≤ n → Passed p boxes before after n moved → Ascends (IsTop p before boxes) p boxes before (Ok moved) after
 passed-all p boxes before after n true h m = m
 passed-all p boxes before after n false h m = (m.0, λ row g. m.1 row (omega (arith, g, h)))

@@ -56,10 +56,12 @@ told-more es k d ys all below h before = record { told = λ i. at i (nat_eq (sli
   where
     e : Entry
     e = slice_index_or es k d
+
     row-in : (n j : ℕ) (fs : List Entry) → RowsBelow n fs → j < length fs → (slice_index_or fs j d).0 < n
     row-in n j [] b g = absurd (omega arith)
     row-in n zero (f ∷ fs) b g = b.0
     row-in n (suc j) (f ∷ fs) b g = row-in n j fs b.1 (omega arith)
+
     own : int_at (slice_set ys (slice_index_or es k d).0 (slice_index_or es k d).1) (slice_index_or es k d).0 ≡ coefficient (slice_index_or es k d).0 (take (suc k) es)
     own =
         let r : ℕ = (slice_index_or es k d).0 in
@@ -68,6 +70,7 @@ told-more es k d ys all below h before = record { told = λ i. at i (nat_eq (sli
         let more = take-more (slice_index_or es k d).0 k es d h in
         let single = coefficient-own (slice_index_or es k d).0 (slice_index_or es k d) [] refl in
         omega (arith, ints, set, fresh, more, single)
+
     at : (i : ℕ) (b : Bool) → nat_eq (slice_index_or es k d).0 i ≡ b → int_at (slice_set ys (slice_index_or es k d).0 (slice_index_or es k d).1) i ≡ coefficient i (take (suc k) es)
     at i true q =
         let same : (slice_index_or es k d).0 ≡ i = grind (arith, nat_tests, q) in

@@ -71,13 +71,13 @@ abbrev pub IsTop : Scenarios → Ascent → List Box → Type 0
 IsTop p a boxes = (row : ℕ) → row < length p.model.rows → IsTopOfRow p a boxes row
 
 -- true: the total has grown; false: the vector stays, and it is a top
-abbrev pub Climbs : Type 0 → Scenarios → List Box → Ascent → Result Bool AllocError → Ascent → Type 0
-Climbs Top p boxes before (Ok true) after = total_of p before boxes (vector_at before) <ℤ total_of p before boxes (vector_at after)
-Climbs Top p boxes before (Ok false) after = (after.multipliers.items ≡ before.multipliers.items) × Top
-Climbs Top p boxes before (Err e) after = Unit {0}
+abbrev pub Ascends : Type 0 → Scenarios → List Box → Ascent → Result Bool AllocError → Ascent → Type 0
+Ascends Top p boxes before (Ok true) after = total_of p before boxes (vector_at before) <ℤ total_of p before boxes (vector_at after)
+Ascends Top p boxes before (Ok false) after = (after.multipliers.items ≡ before.multipliers.items) × Top
+Ascends Top p boxes before (Err e) after = Unit {0}
 
 -- the total has grown, or it stays and the start was a top
-abbrev pub HasClimbed : Scenarios → List Box → Ascent → Ascent → Type 0
-HasClimbed p boxes before after =
+abbrev pub HasAscended : Scenarios → List Box → Ascent → Ascent → Type 0
+HasAscended p boxes before after =
     (total_of p before boxes (vector_at before) <ℤ total_of p before boxes (vector_at after))
     ⊎ ((after.multipliers.items ≡ before.multipliers.items) × IsTop p before boxes)

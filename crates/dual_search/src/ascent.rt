@@ -5,7 +5,7 @@ ghost use Rattle.dual_bounds.specs.Vectors.{KeepsLimits, RowsBelow};
 ghost use Rattle.dual_bounds.specs.Merging.{IsMultiplier};
 ghost use Rattle.int_model.specs.Integers.{int_at};
 ghost use Rattle.dual_search.specs.Gains as gains;
-ghost use Rattle.dual_search.specs.Ascents.{AreBoxes, Climbs, HasClimbed, HasVector, IsCarried, IsSameSearch, IsTop, IsTopAt, IsTopOfRow, AreAllReduced, total_of, unit, vector_at, with_multiplier};
+ghost use Rattle.dual_search.specs.Ascents.{AreBoxes, Ascends, HasAscended, HasVector, IsCarried, IsSameSearch, IsTop, IsTopAt, IsTopOfRow, AreAllReduced, total_of, unit, vector_at, with_multiplier};
 
 use crate::breakpoints::Breakpoints;
 use crate::reduced_costs::ReducedCosts;
@@ -248,14 +248,7 @@ impl Ascent {
 
     // The one of two multipliers of a row with the greater total, as far as there is a vector with the
     // other.
-    fn better(
-        &self,
-        problem: &Problem,
-        boxes: &[PointBox],
-        row: u32,
-        best: i64,
-        other: i64,
-    ) -> i64
+    fn better(&self, problem: &Problem, boxes: &[PointBox], row: u32, best: i64, other: i64) -> i64
         requires carried { IsCarried problem.now self.now }
         requires boxes { AreBoxes problem.now self.now boxes.now }
         requires row { row < length problem.now.model.rows }
@@ -274,7 +267,7 @@ impl Ascent {
     }
 
     // Moves the multiplier of a row to one side, where that gains. Whether it did.
-    fn climb_side(
+    fn ascend_side(
         &mut self,
         problem: &Problem,
         boxes: &[PointBox],
@@ -287,7 +280,7 @@ impl Ascent {
         requires row { row < length problem.now.model.rows }
         ensures carried { IsCarried problem.now self.new }
         ensures same { IsSameSearch self.old self.new }
-        ensures climbs { Climbs (IsTopAt problem.now self.old boxes.now row (unit upwards)) problem.now boxes.now self.old result self.new }
+        ensures ascends { Ascends (IsTopAt problem.now self.old boxes.now row (unit upwards)) problem.now boxes.now self.old result self.new }
     {
         let step = unit_step(upwards);
         let near = self.multipliers[row as usize] + step;
@@ -305,7 +298,7 @@ impl Ascent {
     }
 
     // Moves the multiplier of a row where that gains. Whether it did.
-    fn climb_row(
+    fn ascend_row(
         &mut self,
         problem: &Problem,
         boxes: &[PointBox],
@@ -317,12 +310,12 @@ impl Ascent {
         requires row { row < length problem.now.model.rows }
         ensures carried { IsCarried problem.now self.new }
         ensures same { IsSameSearch self.old self.new }
-        ensures climbs { Climbs (IsTopOfRow problem.now self.old boxes.now row) problem.now boxes.now self.old result self.new }
+        ensures ascends { Ascends (IsTopOfRow problem.now self.old boxes.now row) problem.now boxes.now self.old result self.new }
     {
-        if self.climb_side(problem, boxes, breakpoints, row, true)? {
+        if self.ascend_side(problem, boxes, breakpoints, row, true)? {
             return Ok(true);
         }
-        self.climb_side(problem, boxes, breakpoints, row, false)
+        self.ascend_side(problem, boxes, breakpoints, row, false)
     }
 
     // Goes once over all rows. Whether some multiplier moved.
@@ -336,17 +329,17 @@ impl Ascent {
         requires boxes { AreBoxes problem.now self.old boxes.now }
         ensures carried { IsCarried problem.now self.new }
         ensures same { IsSameSearch self.old self.new }
-        ensures climbs { Climbs (IsTop problem.now self.old boxes.now) problem.now boxes.now self.old result self.new }
+        ensures ascends { Ascends (IsTop problem.now self.old boxes.now) problem.now boxes.now self.old result self.new }
     {
         let mut moved = false;
         for row in 0..problem.model().rows() {
-            moved |= self.climb_row(problem, boxes, breakpoints, row)?;
+            moved |= self.ascend_row(problem, boxes, breakpoints, row)?;
         }
         Ok(moved)
     }
 
     /// Goes over all rows, and once more where some multiplier moved.
-    pub fn climb(
+    pub fn ascend(
         &mut self,
         problem: &Problem,
         boxes: &[PointBox],
@@ -356,7 +349,7 @@ impl Ascent {
         requires boxes { AreBoxes problem.now self.old boxes.now }
         ensures carried { IsCarried problem.now self.new }
         ensures same { IsSameSearch self.old self.new }
-        ensures climbed { OnOk result (HasClimbed problem.now boxes.now self.old self.new) }
+        ensures ascended { OnOk result (HasAscended problem.now boxes.now self.old self.new) }
     {
         if self.pass(problem, boxes, breakpoints)? {
             self.pass(problem, boxes, breakpoints)?;

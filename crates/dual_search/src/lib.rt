@@ -1,7 +1,7 @@
 //! A search for good vectors of multipliers: coordinate ascent of the dual function, in whole numbers.
 //!
 //! `specs/Totals.antt` defines the total of a vector over the boxes of several scenarios and the
-//! neighbours of a vector. How far the search climbs beyond its contract is claimed by nothing.
+//! neighbours of a vector. How much more is gained than the contract says is claimed by nothing.
 #![tactic(auto)]
 
 ghost use Rattle.std.specs.Prelude.{◌≡◌, ◌<◌, ◌≤◌, ◌≤ℤ◌, length, All, IfOk};
@@ -57,7 +57,7 @@ pub fn search(
     let mut ascent = Ascent::new(alloc, problem, live, start)?;
     let room = longest_row(problem.model()) * boxes.len();
     let mut breakpoints = Breakpoints::new(alloc, room)?;
-    ascent.climb(problem, boxes, &mut breakpoints)?;
+    ascent.ascend(problem, boxes, &mut breakpoints)?;
     let vector = ascent.vector(alloc)?;
     Ok(vector)
 }

@@ -1,5 +1,8 @@
-// What comes out of worked searches. The totals were worked out by hand, and `evaluate` tells those of
-// the answers.
+// What comes out of worked searches: the greatest totals, worked out by hand. `evaluate` tells the total
+// of an answer.
+ghost use Rattle.std.specs.Prelude.{◌≡◌, ◌<◌, length, All, IfOk, IsTrue};
+ghost use Rattle.dual_bounds.specs.Vectors.{RowsBelow};
+
 use crate::search;
 use dual_bounds::{Vector, evaluate};
 use int_model::{ColumnPart, Direction, Model, Name, Parts, PointBox, Rhs, Row, RowSense, Terms};
@@ -25,31 +28,35 @@ fn column(alloc: Global, byte: u8, cost: i64) -> Result<ColumnPart, AllocError> 
     })
 }
 
-// Costs of -3 and -2, and 2x + y at most 4.
-fn two_columns(alloc: Global) -> Result<Model, Fail> {
-    let columns = vec![in alloc; column(alloc, b'x', -3)?, column(alloc, b'y', -2)?]?;
-    let row = Row {
-        name: name_of(alloc, b'c')?,
-        sense: RowSense::L,
-        rhs: 4,
+fn row(
+    alloc: Global,
+    byte: u8,
+    sense: RowSense,
+    rhs: i64,
+    first: (u32, i64),
+    second: (u32, i64),
+) -> Result<Row, AllocError> {
+    Ok(Row {
+        name: name_of(alloc, byte)?,
+        sense,
+        rhs,
         range: None,
-        terms: Terms::from_vec(vec![in alloc; (0, 2), (1, 1)]?),
-    };
-    let rows = vec![in alloc; row]?;
-    Ok(Model::build(
-        alloc,
-        Parts {
-            columns,
-            rows,
-            constant: 0,
-            direction: Direction::Min,
-        },
-    )?)
+        terms: Terms::from_vec(vec![in alloc; first, second]?),
+    })
 }
 
-// Scenario 0 is the base, in scenario 1 the cost of y is -9, and scenario 2 has no row.
-fn three_scenarios(rt: &impl Abort, alloc: Global) -> Result<Problem, Fail> {
-    let model = two_columns(alloc)?;
+// Costs of -3 and -2, and 2x + y at most 4. Scenario 0 is the base, in scenario 1 the cost of y is -9,
+// and scenario 2 has no row.
+fn capacity(rt: &impl Abort, alloc: Global) -> Result<Problem, Fail> {
+    let columns = vec![in alloc; column(alloc, b'x', -3)?, column(alloc, b'y', -2)?]?;
+    let rows = vec![in alloc; row(alloc, b'c', RowSense::L, 4, (0, 2), (1, 1))?]?;
+    let parts = Parts {
+        columns,
+        rows,
+        constant: 0,
+        direction: Direction::Min,
+    };
+    let model = Model::build(alloc, parts)?;
     let mut changes = Changes::new(alloc, &model)?;
     changes.set_num_scenarios(3)?;
     changes.select(1)?;
@@ -60,47 +67,124 @@ fn three_scenarios(rt: &impl Abort, alloc: Global) -> Result<Problem, Fail> {
     Ok(Problem::new(alloc, model, changes)?)
 }
 
-// The total of a vector for the live scenarios, all on one box.
-fn total(problem: &Problem, live: LiveSet, bounds: &PointBox, vector: &Vector) -> i128 {
-    let mut total: i128 = 0;
-    for s in live.iter() {
-        let sum = evaluate(problem.model(), problem.costs(s), problem.ends(s), vector, bounds);
-        total = total.saturating_add(sum);
+// Costs of 1, 2, 2 and 3, x + y at least 4, and z + w equal to 5.
+fn covering(rt: &impl Abort, alloc: Global) -> Result<Problem, Fail> {
+    let columns = vec![in alloc;
+        column(alloc, b'x', 1)?,
+        column(alloc, b'y', 2)?,
+        column(alloc, b'z', 2)?,
+        column(alloc, b'w', 3)?,
+    ]?;
+    let rows = vec![in alloc;
+        row(alloc, b'a', RowSense::G, 4, (0, 1), (1, 1))?,
+        row(alloc, b'b', RowSense::E, 5, (2, 1), (3, 1))?,
+    ]?;
+    let parts = Parts {
+        columns,
+        rows,
+        constant: 0,
+        direction: Direction::Min,
+    };
+    let model = Model::build(alloc, parts)?;
+    let changes = Changes::new(alloc, &model)?;
+    assert!(rt; changes.fits(&model));
+    Ok(Problem::new(alloc, model, changes)?)
+}
+
+fn are_below(live: LiveSet, count: u32) -> bool
+    ensures { IsTrue result → All (λ s. s < count) live }
+{
+    live.iter().all(|s| s < count)
+}
+
+fn copies(alloc: Global, bounds: &PointBox, count: usize) -> Result<Vec<PointBox>, AllocError>
+    ensures count { IfOk result (λ v. length v.items ≡ count) }
+    ensures columns { IfOk result (λ v. All (λ b. length b ≡ length bounds.now) v.items) }
+{
+    let mut boxes = Vec::new(alloc);
+    'copies: while boxes.len() < count {
+        boxes.push(bounds.copy(alloc)?)?;
     }
-    total
+    Ok(boxes)
+}
+
+// The total after a search, where all scenarios have the same box.
+fn total_after(
+    rt: &impl Abort,
+    alloc: Global,
+    problem: &Problem,
+    live: LiveSet,
+    bounds: &PointBox,
+    start: &Vector,
+) -> Result<i128, Fail>
+    requires columns { length bounds.now ≡ length problem.now.model.columns }
+    requires rows { RowsBelow (length problem.now.model.rows) start.now.entries }
+{
+    assert!(rt; are_below(live, problem.count()));
+    let boxes = copies(alloc, bounds, live.count() as usize)?;
+    let found = search(alloc, problem, live, &boxes, start)?;
+    assert_eq!(rt; found.scale(), start.scale());
+    let mut total: i128 = 0;
+    for s in 0..problem.count() {
+        if live.contains(s) {
+            let (costs, ends) = (problem.costs(s), problem.ends(s));
+            let sum = evaluate(problem.model(), costs, ends, &found, bounds);
+            total = total.saturating_add(sum);
+        }
+    }
+    Ok(total)
 }
 
 #[test]
-fn totals_of_worked_searches(rt: HostRuntime) -> Result<(), Fail> {
+fn totals_under_one_row(rt: HostRuntime) -> Result<(), Fail> {
     let alloc = rt.alloc();
-    let problem = three_scenarios(&rt, alloc)?;
+    let problem = capacity(&rt, alloc)?;
     let bounds = PointBox::from_ends(alloc, &[0, 0], &[3, 3])?;
-    for (members, scale, start, least) in [
-        (1, 1, 0, -8),
-        (1, 2, 0, -15),
-        (1, 2, -5, -15),
-        (2, 1, 0, -20),
-        (3, 4, 0, -123),
-        (4, 1, 0, -15),
-        (7, 4, 0, -60),
+    assert_eq!(rt; problem.model().rows(), 1);
+    assert_eq!(rt; problem.model().columns(), 2);
+    let mut second = LiveSet::none();
+    second.insert(1);
+    let mut third = LiveSet::none();
+    third.insert(2);
+    let costs_alone = Vector::new(alloc, 1, &[])?;
+    // -3 times 4 and nothing else is the best of scenario 0 at the scale 2, from each start.
+    for (multiplier, total) in [(-1, -15), (-5, -15), (-1_000_000, -15)] {
+        let start = Vector::new(alloc, 2, &[(0, multiplier)])?;
+        let found = total_after(&rt, alloc, &problem, LiveSet::full(1), &bounds, &start)?;
+        assert_eq!(rt; found, total, "from {multiplier}");
+    }
+    // Without the row nothing is gained.
+    for (live, total) in [
+        (LiveSet::none(), 0),
+        (LiveSet::full(1), -8),
+        (second, -29),
+        (LiveSet::full(2), -37),
+        (third, -15),
+        (LiveSet::full(3), -52),
     ] {
-        let mut live = LiveSet::none();
-        for s in 0..3 {
-            if members >> s & 1 == 1 {
-                live.insert(s);
-            }
-        }
-        let entries = [(0, start)];
-        let entries = if start == 0 { &entries[..0] } else { &entries[..] };
-        let start = Vector::new(alloc, scale, entries)?;
-        let mut boxes = Vec::new(alloc);
-        for _ in live.iter() {
-            boxes.push(bounds.copy(alloc)?)?;
-        }
-        let before = total(&problem, live, &bounds, &start);
-        let found = search(alloc, &problem, live, &boxes, &start)?;
-        let after = total(&problem, live, &bounds, &found);
-        rt.print(format!(in alloc; "{members} {scale}: {before} {after} {least}\n")?.as_str())?;
+        let found = total_after(&rt, alloc, &problem, live, &bounds, &costs_alone)?;
+        assert_eq!(rt; found, total);
+    }
+    Ok(())
+}
+
+#[test]
+fn totals_of_covering_rows(rt: HostRuntime) -> Result<(), Fail> {
+    let alloc = rt.alloc();
+    let problem = covering(&rt, alloc)?;
+    assert_eq!(rt; problem.model().rows(), 2);
+    assert_eq!(rt; problem.model().columns(), 4);
+    // The least costs are 5 and 12. The second box holds one point, and the third one none that is feasible,
+    // so there the multiplier of the second row goes to its end.
+    for (low, high, total) in [
+        ([0, 0, 0, 0], [3, 3, 3, 3], 17),
+        ([2, 2, 3, 2], [2, 2, 3, 2], 18),
+        ([2, 2, 2, 2], [2, 2, 2, 2], 1_099_511_627_792),
+    ] {
+        let bounds = PointBox::from_ends(alloc, &low, &high)?;
+        let start = Vector::new(alloc, 1, &[])?;
+        let found = total_after(&rt, alloc, &problem, LiveSet::full(1), &bounds, &start)?;
+        assert_eq!(rt; found, total);
     }
     Ok(())
 }

@@ -10,7 +10,7 @@ use Rattle.dual_bounds.specs.Vectors.{Multipliers}
 use Rattle.dual_search.specs.declared.ascent.Ascent.{Ascent}
 use Rattle.dual_search.specs.Ascents.{total_of, unit, vector_at, with_multiplier}
 use Rattle.dual_search.proofs.AscentLemmas.{limits-told, vector-moved, near-is}
-use Rattle.dual_search.proofs.ascent.Ascent.climb_side.Goals as goal
+use Rattle.dual_search.proofs.ascent.Ascent.ascend_side.Goals as goal
 
 pub gain-requires-clause-limit : goal.gain-requires-clause-limit
 gain-requires-clause-limit c =
@@ -31,8 +31,8 @@ more x y g e fits t =
 chain : (x y z w : ℤ) → x <ℤ y → y ≤ℤ z → z ≤ℤ w → x <ℤ w
 chain x y z w a b c = omega (arith, ints, a, b, c)
 
-pub returns-then-gain-le0-clause-climbs : goal.returns-then-gain-le0-clause-climbs
-returns-then-gain-le0-clause-climbs c =
+pub returns-then-gain-le0-clause-ascends : goal.returns-then-gain-le0-clause-ascends
+returns-then-gain-le0-clause-ascends c =
     let p : Scenarios = c.args.problem.now in
     let a : Ascent = c.args.self.now in
     let boxes : List Box = c.args.boxes.now in
@@ -47,8 +47,8 @@ returns-then-gain-le0-clause-climbs c =
     let test : total_of p a boxes (with_multiplier a row raw) ≤ℤ total_of p a boxes (vector_at a) = no_more (total_of p a boxes (with_multiplier a row raw)) (total_of p a boxes (vector_at a)) c.gain.result c.gain.ensures fits c.if-gain-le0.true in
     (refl, λ limits. subst (λ (z : ℤ). total_of p a boxes (with_multiplier a row z) ≤ℤ total_of p a boxes (vector_at a)) near test)
 
-pub returns-clause-climbs : goal.returns-clause-climbs
-returns-clause-climbs c =
+pub returns-clause-ascends : goal.returns-clause-ascends
+returns-clause-ascends c =
     let p : Scenarios = c.args.problem.now in
     let a : Ascent = c.args.self.now in
     let boxes : List Box = c.args.boxes.now in
@@ -60,9 +60,9 @@ returns-clause-climbs c =
     let grown : total_of p a boxes (vector_at a) <ℤ total_of p a boxes (with_multiplier a row raw) = more (total_of p a boxes (with_multiplier a row raw)) (total_of p a boxes (vector_at a)) c.gain.result c.gain.ensures fits c.if-gain-le0.false in
     let first : total_of p a boxes (with_multiplier a row raw) ≤ℤ total_of p a boxes (with_multiplier a row c.better-best.result) = c.better-best.ensures.least in
     let second : total_of p a boxes (with_multiplier a row c.better-best.result) ≤ℤ total_of p a boxes (with_multiplier a row c.better-best-2.result) =
-        subst (λ (z : ℤ). total_of p a boxes (with_multiplier a row z) ≤ℤ total_of p a boxes (with_multiplier a row c.better-best-2.result)) (to_z-of_z w64 c.better-best.result first_fits) c.better-best-2.ensures.least in
+    subst (λ (z : ℤ). total_of p a boxes (with_multiplier a row z) ≤ℤ total_of p a boxes (with_multiplier a row c.better-best-2.result)) (to_z-of_z w64 c.better-best.result first_fits) c.better-best-2.ensures.least in
     let set : vector_at c.set.new.self ≡ with_multiplier a row c.better-best-2.result =
-        vector-moved a c.set.new.self row (to_z w64 (of_z w64 c.better-best-2.result)) c.set.ensures.same.scale c.set.ensures.multipliers
-        ∙ ap (λ (z : ℤ). with_multiplier a row z) (to_z-of_z w64 c.better-best-2.result second_fits) in
+    vector-moved a c.set.new.self row (to_z w64 (of_z w64 c.better-best-2.result)) c.set.ensures.same.scale c.set.ensures.multipliers
+    ∙ ap (λ (z : ℤ). with_multiplier a row z) (to_z-of_z w64 c.better-best-2.result second_fits) in
     subst (λ (v : Multipliers). total_of p a boxes (vector_at a) <ℤ total_of p a boxes v) (sym set)
     (chain (total_of p a boxes (vector_at a)) (total_of p a boxes (with_multiplier a row raw)) (total_of p a boxes (with_multiplier a row c.better-best.result)) (total_of p a boxes (with_multiplier a row c.better-best-2.result)) grown first second)
