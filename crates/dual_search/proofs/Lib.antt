@@ -8,3 +8,4 @@ pub mod StartLemmas
 pub mod ZeroLemmas
 pub mod PassLemmas
 pub mod NeighbourLemmas
+pub mod Examples

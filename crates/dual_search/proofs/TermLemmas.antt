@@ -6,10 +6,12 @@ use Rattle.std.proofs.lemmas.Bool.Decides.{nat_tests}
 use Rattle.std.proofs.lemmas.Int.{ints}
 use Rattle.std.proofs.Math.Seq.{drop-cons}
 use Rattle.int_model.specs.Integers.{int_sum_by, int_at}
+use Rattle.int_model.specs.Boxes.{Box, interval_at}
 use Rattle.int_model.specs.Limits.{IsEntry}
 use Rattle.int_model.specs.Programs.{Terms, AreTerms, CostsWithin}
-use Rattle.int_model.specs.RowSums.{coefficient}
+use Rattle.int_model.specs.RowSums.{coefficient, least_product}
 use Rattle.int_model.proofs.IntegerLaws.{mul-add}
+use Rattle.dual_search.specs.Gains.{column_gain}
 
 -- what holds of a term
 pub record IsTerm (n : ℕ) (t : ℕ × ℤ) : Type 0 where
@@ -110,3 +112,12 @@ pushed P xs ys v k n e before here =
     below_more _ k
     (λ j h. let inside : j < length xs = omega (arith, n, h) in subst (P j) (sym (ap (λ (l : List ℤ). int_at l j) e ∙ get_or_append_left xs (v ∷ []) (pos 0) j inside)) (before j h))
     (subst (P k) (sym (ap (λ (l : List ℤ). int_at l k) e ∙ get_or_push xs v (pos 0) k n)) here)
+
+-- ---- a multiplier that stays gains nothing
+
+pub no-step : (reduced : List ℤ) (box : Box) (ts : Terms) → int_sum_by (column_gain (pos 0) reduced box) ts ≡ pos 0
+no-step reduced box [] = refl
+no-step reduced box (t ∷ ts) =
+    let same : int_at reduced t.0 -ℤ pos 0 *ℤ t.1 ≡ int_at reduced t.0 = omega (arith, ints) in
+    let own : column_gain (pos 0) reduced box t ≡ pos 0 = ap (λ (z : ℤ). least_product z (interval_at box t.0) -ℤ least_product (int_at reduced t.0) (interval_at box t.0)) same ∙ omega (arith, ints) in
+    omega (arith, ints, own, no-step reduced box ts)

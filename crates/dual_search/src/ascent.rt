@@ -1,5 +1,5 @@
 // The ascent: the multipliers of all rows, and the reduced costs of each scenario that belong to them.
-ghost use Rattle.std.specs.Prelude.{◌≡◌, ◌↔◌, ◌^◌, ◌<◌, ◌≤◌, ◌+ℤ◌, ◌≤ℤ◌, ℕ, pos, unsigned_abs, length, slice_set, All, IfOk, OnOk, IsTrue};
+ghost use Rattle.std.specs.Prelude.{◌≡◌, ◌↔◌, ◌^◌, ◌<◌, ◌≤◌, ◌+ℤ◌, ◌≤ℤ◌, ◌<ℤ◌, ℕ, pos, unsigned_abs, length, slice_set, All, IfOk, OnOk, IsTrue};
 ghost use Rattle.scenario_changes.specs.Problems.{problem as posed};
 ghost use Rattle.dual_bounds.specs.Vectors.{KeepsLimits, RowsBelow};
 ghost use Rattle.dual_bounds.specs.Merging.{IsMultiplier};
@@ -172,6 +172,17 @@ impl Ascent {
         gain
     }
 
+    // Whether the total grows where the multiplier of a row becomes another one.
+    fn gains(&self, problem: &Problem, boxes: &[PointBox], row: u32, to: i64) -> bool
+        requires carried { IsCarried problem.now self.now }
+        requires boxes { AreBoxes problem.now self.now boxes.now }
+        requires row { row < length problem.now.model.rows }
+        requires limit { IsMultiplier to }
+        ensures { IsTrue result ↔ total_of problem.now self.now boxes.now (vector_at self.now) <ℤ total_of problem.now self.now boxes.now (with_multiplier self.now row to) }
+    {
+        self.gain(problem, boxes, row, to) > 0
+    }
+
     // Whether there is a vector where the multiplier of a row is another one.
     fn admits(&self, row: u32, to: i64) -> bool
         requires vector { HasVector self.now }
@@ -287,7 +298,7 @@ impl Ascent {
         if !self.admits(row, near) {
             return Ok(false);
         }
-        if self.gain(problem, boxes, row, near) <= 0 {
+        if !self.gains(problem, boxes, row, near) {
             return Ok(false);
         }
         let far = self.candidate(problem, boxes, breakpoints, row, upwards)?;

@@ -131,6 +131,9 @@ fn columns_gain(costs: &[i128], terms: &[(u32, i64)], step: i64, bounds: &PointB
     ensures value { result ≡ int_sum_by (gains.column_gain step costs.now bounds.now) terms.now }
     ensures limit { unsigned_abs result ≤ 2 ^ 115 }
 {
+    if step == 0 {
+        return 0;
+    }
     let lows = bounds.lows();
     let highs = bounds.highs();
     let mut gain = 0;

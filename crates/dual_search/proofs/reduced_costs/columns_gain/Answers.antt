@@ -1,12 +1,13 @@
-use Rattle.std.proofs.Common.{rules, arith, ◌≡◌, ◌∙◌, ap, ℕ, ℤ, pos, ◌-ℤ◌, ◌*ℤ◌, ◌≤◌, slice_index_or, FitsSigned, w64, w32, add-one, of_z, to_z}
+use Rattle.std.proofs.Common.{rules, arith, ◌≡◌, ◌∙◌, ap, sym, ℕ, ℤ, pos, ◌-ℤ◌, ◌*ℤ◌, ◌≤◌, slice_index_or, FitsSigned, w64, w32, add-one, of_z, to_z}
 use Rattle.std.proofs.lemmas.Int.{ints, to_z-of_z}
 use mir.Syntax.{w128}
+use Rattle.int_model.specs.Integers.{int_sum_by}
 use Rattle.int_model.specs.Boxes.{Interval, interval_at}
 use Rattle.int_model.specs.RowSums.{least_product}
 use Rattle.dual_bounds.proofs.SumLemmas.{ends-of}
 use Rattle.dual_bounds.proofs.ProductLemmas.{wide-fits}
 use Rattle.dual_search.specs.Gains.{column_gain}
-use Rattle.dual_search.proofs.TermLemmas.{term-at, sum-more}
+use Rattle.dual_search.proofs.TermLemmas.{term-at, sum-more, no-step}
 use Rattle.dual_search.proofs.reduced_costs.columns_gain.Goals as goal
 
 pub bounds-costs-place : goal.bounds-costs-place
@@ -56,3 +57,9 @@ loop-column-preserved c =
       so_far = sum-more (column_gain (to_z w64 (of_z w64 c.args.step)) c.args.costs.now c.args.bounds.now) c.args.terms.now c.loop-column.column-index (0, pos 0) _ _ _ _ c.loop-column-test.true c.loop-column.invariant.so_far gained (omega (arith, ints, c.requires.few, c.loop-column-test.true));
       limit = omega (arith, ints, c.requires.few, c.loop-column-test.true);
     })
+
+pub returns-then-step-eq0-clause-value : goal.returns-then-step-eq0-clause-value
+returns-then-step-eq0-clause-value c =
+    let fits : FitsSigned w64 c.args.step = c.ranges.step in
+    let none : c.args.step ≡ pos 0 = sym (to_z-of_z w64 c.args.step fits) ∙ ap (λ (n : ℕ). to_z w64 n) c.if-step-eq0.true in
+    sym (ap (λ (z : ℤ). int_sum_by (column_gain z c.args.costs.now c.args.bounds.now) c.args.terms.now) none ∙ no-step c.args.costs.now c.args.bounds.now c.args.terms.now)

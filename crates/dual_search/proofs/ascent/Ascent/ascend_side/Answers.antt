@@ -1,8 +1,8 @@
 use Rattle.std.proofs.Common.{rules, arith, ◌≡◌, ◌∙◌, ap, sym, subst, refl, true, false, List, ℕ, ℤ, pos, ◌+ℤ◌, ◌≤ℤ◌, ◌<ℤ◌, ◌<◌, ◌≤◌, ◌^◌, length, unsigned_abs, FitsSigned, w64, of_z, to_z}
 use Rattle.std.proofs.lemmas.List.{get_or_read}
 use Rattle.std.proofs.lemmas.Int.{ints, to_z-of_z}
-use mir.Syntax.{w128}
-use Rattle.std.specs.Prelude.{int_le}
+use Rattle.std.specs.Prelude.{Bool, IsTrue, int_lt}
+use Rattle.std.proofs.lemmas.Bool.{both_ways}
 use Rattle.int_model.specs.Integers.{int_at}
 use Rattle.int_model.specs.Boxes.{Box}
 use Rattle.scenario_changes.specs.Problems.{Scenarios}
@@ -12,27 +12,26 @@ use Rattle.dual_search.specs.Ascents.{total_of, unit, vector_at, with_multiplier
 use Rattle.dual_search.proofs.AscentLemmas.{limits-told, vector-moved, near-is}
 use Rattle.dual_search.proofs.ascent.Ascent.ascend_side.Goals as goal
 
-pub gain-requires-clause-limit : goal.gain-requires-clause-limit
-gain-requires-clause-limit c =
+pub gains-requires-clause-limit : goal.gains-requires-clause-limit
+gains-requires-clause-limit c =
     let in_rows : c.args.row < length c.args.self.now.multipliers.items = omega (arith, c.requires.row, c.requires.carried.rows) in
     limits-told c.args.self.now c.args.row _ in_rows (c.admits.ensures.0 c.if-not-admits.false)
 
--- what the test of a gain says of the totals
-no_more : (x y g : ℤ) → x ≡ y +ℤ g → FitsSigned w128 g → int_le (to_z w128 (of_z w128 g)) (pos 0) ≡ true → x ≤ℤ y
-no_more x y g e fits t =
-    let plain : int_le g (pos 0) ≡ true = rw (to_z-of_z w128 g fits) at t in
-    omega (arith, ints, e, plain)
-
-more : (x y g : ℤ) → x ≡ y +ℤ g → FitsSigned w128 g → int_le (to_z w128 (of_z w128 g)) (pos 0) ≡ false → y <ℤ x
-more x y g e fits t =
-    let plain : int_le g (pos 0) ≡ false = rw (to_z-of_z w128 g fits) at t in
-    omega (arith, ints, e, plain)
+-- where a test that tells whether x is below y says no
+not-below : (x y : ℤ) (b : Bool) → (x <ℤ y → IsTrue b) → b ≡ false → y ≤ℤ x
+not-below x y b tells denied = by_test (int_lt x y) refl
+  where
+    by_test : (t : Bool) → int_lt x y ≡ t → y ≤ℤ x
+    by_test true e =
+        let less : x <ℤ y = omega (arith, ints, e) in
+        absurd (both_ways b denied (tells less))
+    by_test false e = omega (arith, ints, e)
 
 chain : (x y z w : ℤ) → x <ℤ y → y ≤ℤ z → z ≤ℤ w → x <ℤ w
 chain x y z w a b c = omega (arith, ints, a, b, c)
 
-pub returns-then-gain-le0-clause-ascends : goal.returns-then-gain-le0-clause-ascends
-returns-then-gain-le0-clause-ascends c =
+pub returns-then-not-gains-clause-ascends : goal.returns-then-not-gains-clause-ascends
+returns-then-not-gains-clause-ascends c =
     let p : Scenarios = c.args.problem.now in
     let a : Ascent = c.args.self.now in
     let boxes : List Box = c.args.boxes.now in
@@ -43,8 +42,7 @@ returns-then-gain-le0-clause-ascends c =
     let step : unsigned_abs (unit c.args.upwards) ≤ 1 = subst (λ (z : ℤ). unsigned_abs z ≤ 1) c.unit_step-step.ensures.value c.unit_step-step.ensures.limit in
     let near = near-is (int_at c.args.self.now.multipliers.items c.args.row) c.index.result.now c.unit_step-step.result (unit c.args.upwards) read c.unit_step-step.ensures.value small step in
     let raw : ℤ = to_z w64 (of_z w64 (to_z w64 (of_z w64 c.index.result.now) +ℤ to_z w64 (of_z w64 c.unit_step-step.result))) in
-    let fits : FitsSigned w128 c.gain.result = search rules in
-    let test : total_of p a boxes (with_multiplier a row raw) ≤ℤ total_of p a boxes (vector_at a) = no_more (total_of p a boxes (with_multiplier a row raw)) (total_of p a boxes (vector_at a)) c.gain.result c.gain.ensures fits c.if-gain-le0.true in
+    let test : total_of p a boxes (with_multiplier a row raw) ≤ℤ total_of p a boxes (vector_at a) = not-below (total_of p a boxes (vector_at a)) (total_of p a boxes (with_multiplier a row raw)) c.gains.result c.gains.ensures.1 c.if-not-gains.true in
     (refl, λ limits. subst (λ (z : ℤ). total_of p a boxes (with_multiplier a row z) ≤ℤ total_of p a boxes (vector_at a)) near test)
 
 pub returns-clause-ascends : goal.returns-clause-ascends
@@ -54,10 +52,9 @@ returns-clause-ascends c =
     let boxes : List Box = c.args.boxes.now in
     let row : ℕ = c.args.row in
     let raw : ℤ = to_z w64 (of_z w64 (to_z w64 (of_z w64 c.index.result.now) +ℤ to_z w64 (of_z w64 c.unit_step-step.result))) in
-    let fits : FitsSigned w128 c.gain.result = search rules in
     let first_fits : FitsSigned w64 c.better-best.result = search rules in
     let second_fits : FitsSigned w64 c.better-best-2.result = search rules in
-    let grown : total_of p a boxes (vector_at a) <ℤ total_of p a boxes (with_multiplier a row raw) = more (total_of p a boxes (with_multiplier a row raw)) (total_of p a boxes (vector_at a)) c.gain.result c.gain.ensures fits c.if-gain-le0.false in
+    let grown : total_of p a boxes (vector_at a) <ℤ total_of p a boxes (with_multiplier a row raw) = c.gains.ensures.0 c.if-not-gains.false in
     let first : total_of p a boxes (with_multiplier a row raw) ≤ℤ total_of p a boxes (with_multiplier a row c.better-best.result) = c.better-best.ensures.least in
     let second : total_of p a boxes (with_multiplier a row c.better-best.result) ≤ℤ total_of p a boxes (with_multiplier a row c.better-best-2.result) =
     subst (λ (z : ℤ). total_of p a boxes (with_multiplier a row z) ≤ℤ total_of p a boxes (with_multiplier a row c.better-best-2.result)) (to_z-of_z w64 c.better-best.result first_fits) c.better-best-2.ensures.least in
