@@ -152,3 +152,12 @@ pub highs-at : (b : Box) (j : ℕ) → slice_index_or (map (λ (i : Interval). i
 highs-at [] j = refl
 highs-at (i ∷ b) zero = refl
 highs-at (i ∷ b) (suc j) = highs-at b j
+
+-- a part by the sides of both boxes
+pub part-by-sides : (a b : Box) → length a ≡ length b → ((k : ℕ) → k < length b → IsIn (interval_at a k) (interval_at b k)) → IsPart a b
+part-by-sides [] [] same h = tt
+part-by-sides [] (k ∷ b) same h = absurd (omega arith)
+part-by-sides (i ∷ a) [] same h = absurd (omega arith)
+part-by-sides (i ∷ a) (k ∷ b) same h =
+    let first : IsIn i k = h 0 (omega arith) in
+    (first.low, first.high, part-by-sides a b (omega arith) (λ j l. h (suc j) (omega arith)))
