@@ -1,0 +1,4 @@
+pub mod Dives
+pub mod Divers
+pub mod Plans
+pub mod Moves
