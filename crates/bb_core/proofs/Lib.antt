@@ -1,0 +1,3 @@
+pub mod ListWrites
+pub mod TreeSteps
+pub mod CoverageLaws

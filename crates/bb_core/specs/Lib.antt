@@ -1,0 +1,4 @@
+pub mod Settlements
+pub mod Coverage
+pub mod Shared
+pub mod Laws
