@@ -1,13 +1,13 @@
 -- A finder as contracts see it: what it was made for, its seat, and the best points.
-use Rattle.std.specs.Prelude.{◌≡◌, ◌≤◌, ℕ, ℤ, List, length, Option, None, Some}
+use Rattle.std.specs.Prelude.{◌≡◌, ◌≢◌, ◌<◌, ◌≤◌, ℕ, ℤ, List, [], length, Option, None, Some}
 use Rattle.int_model.specs.Programs.{Program, Feasible, value}
-use Rattle.scenario_changes.specs.Problems.{Scenarios, program_at}
+use Rattle.scenario_changes.specs.Problems.{Scenarios, AreWithin, program_at}
 use Rattle.scenario_changes.specs.Problems as problems
 use Rattle.incumbent_words.specs.Codes.{no_value, code}
 use Rattle.incumbent_words.specs.Rule.{code_at, offered}
 use Rattle.incumbent_words.specs.Seats.{Held}
 use Rattle.incumbent_words.specs.declared.view.View.{View}
-use Rattle.finder.specs.Kept.{Kept}
+use Rattle.finder.specs.Kept.{Kept, place_at}
 
 pub record Found : Type 0 where
   pub problem : Scenarios
@@ -28,6 +28,16 @@ value_code p s x = code (value (program_of p s) x)
 abbrev pub IsOwn : Program → ℕ → Option (List ℤ) → Type 0
 IsOwn p c None = c ≡ no_value
 IsOwn p c (Some x) = Feasible p x × (c ≡ code (value p x))
+
+-- The words and the places are one for each scenario, and there is a number. Each own least offer is the
+-- value of the kept point, which is feasible.
+pub record IsSound (f : Found) : Type 0 where
+  pub limits : AreWithin (problems.problem f.problem)
+  pub words : f.seat.table.words ≡ scenario_count f.problem
+  pub places : length f.points ≡ scenario_count f.problem
+  pub columns : (s : ℕ) → s < scenario_count f.problem → (place_at f.points s).columns ≡ length f.problem.model.columns
+  pub number : f.seat.view.numbers ≢ []
+  pub own : (s : ℕ) → s < scenario_count f.problem → IsOwn (program_of f.problem s) (code_at f.seat.view.offers s) (place_at f.points s).point
 
 -- the same problem, words, numbers and count
 pub record IsSameHolder (f g : Found) : Type 0 where

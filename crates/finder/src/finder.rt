@@ -1,11 +1,11 @@
 // A thread's seat with the points that it has found.
-ghost use Rattle.std.specs.Prelude.{◌≡◌, ◌<◌, ◌≤◌, ◌≢◌, ◌^◌, ℕ, min, [], Some, None, length, slice_set, IfOk, MatchOption};
+ghost use Rattle.std.specs.Prelude.{◌≡◌, ◌<◌, ◌≤◌, ◌≢◌, ◌^◌, ℕ, min, [], Some, None, length, slice_set, IfOk, IfSome, MatchOption};
 ghost use Rattle.int_model.specs.Programs.{Feasible};
 ghost use Rattle.scenario_changes.specs.Answers.{HasValue};
-ghost use Rattle.incumbent_words.specs.Codes.{no_value, code, code_of};
+ghost use Rattle.incumbent_words.specs.Codes.{no_value, code, code_of, IsValue};
 ghost use Rattle.incumbent_words.specs.Rule.{code_at, looked, none_for, note_of, joined, HasAll, IsNote, IsSameButCaps};
 ghost use Rattle.finder.specs.Kept.{no_points, place_at};
-ghost use Rattle.finder.specs.Found.{Found, scenario_count, program_of, value_code, IsSameHolder, IsOffered};
+ghost use Rattle.finder.specs.Found.{Found, scenario_count, program_of, value_code, IsSameHolder, IsOffered, IsSound};
 
 use crate::points::BestPoints;
 use incumbent_words::{WordSeat, Words, beats};
@@ -27,11 +27,11 @@ impl<'a> Model for Finder<'a> {
 
     ghost Value = { Found };
 
-    ghost use Rattle.finder.specs.FinderParts.{found, IsTrueTo};
+    ghost use Rattle.finder.specs.FinderParts.{found, IsWhole};
 
     ghost view = { found };
 
-    ghost invariant = { IsTrueTo };
+    ghost invariant = { IsWhole };
 }
 
 impl<'a> Finder<'a> {
@@ -58,8 +58,7 @@ impl<'a> Finder<'a> {
         requires table { self.old.seat.table ≡ words.now }
         requires scenario { s < scenario_count self.old.problem }
         requires feasible { Feasible (program_of self.old.problem s) x.now }
-        ensures problem { self.new.problem ≡ self.old.problem }
-        ensures table { self.new.seat.table ≡ self.old.seat.table }
+        ensures same { IsSameHolder self.old self.new }
         ensures offered { IsOffered self.old.seat.view self.new.seat.view s (value_code self.old.problem s x.now) }
         ensures kept { value_code self.old.problem s x.now < code_at self.old.seat.view.offers s → self.new.points ≡ slice_set self.old.points s (record { columns = length x.now; point = Some x.now }) }
         ensures left { code_at self.old.seat.view.offers s ≤ value_code self.old.problem s x.now → self.new.points ≡ self.old.points }
@@ -76,9 +75,8 @@ impl<'a> Finder<'a> {
     pub fn look(&mut self, words: &Words, s: u32) -> Option<i64>
         requires table { self.old.seat.table ≡ words.now }
         requires scenario { s < scenario_count self.old.problem }
-        ensures problem { self.new.problem ≡ self.old.problem }
+        ensures same { IsSameHolder self.old self.new }
         ensures points { self.new.points ≡ self.old.points }
-        ensures table { self.new.seat.table ≡ self.old.seat.table }
         ensures view { self.new.seat.view ≡ looked self.old.seat.view s (code_of result) }
         ensures cap { code_of result ≤ code_at self.old.seat.view.caps s }
         ensures own { code_of result ≤ code_at self.old.seat.view.offers s }
@@ -91,6 +89,7 @@ impl<'a> Finder<'a> {
     pub fn note(&mut self, alloc: Global, words: &Words) -> Result<WordSeat, AllocError>
         requires { self.old.seat.table ≡ words.now }
         ensures same { self.new ≡ self.old }
+        ensures sound { IsSound self.new }
         ensures note { IfOk result (λ n. (n.table ≡ self.old.seat.table) × (n.view ≡ note_of self.old.seat.view)) }
     {
         words.note(alloc, &mut self.seat)
@@ -125,9 +124,8 @@ impl<'a> Finder<'a> {
         requires table { self.old.seat.table ≡ words.now }
         requires other { note.table ≡ words.now }
         requires note { IsNote note.view }
-        ensures problem { self.new.problem ≡ self.old.problem }
+        ensures same { IsSameHolder self.old self.new }
         ensures points { self.new.points ≡ self.old.points }
-        ensures table { self.new.seat.table ≡ self.old.seat.table }
         ensures view { IsSameButCaps self.old.seat.view self.new.seat.view }
         ensures lowered { (s : ℕ) → code_at self.new.seat.view.caps s ≤ min (code_at self.old.seat.view.caps s) (code_at note.view.caps s) }
         ensures known { HasAll self.old.seat.view → (s : ℕ) → s < scenario_count self.old.problem → code_at self.new.seat.view.caps s ≡ code_at self.old.seat.view.offers s }
@@ -144,6 +142,8 @@ impl<'a> Finder<'a> {
         ensures point { MatchOption result ((place_at self.now.points s).point ≡ None) (λ r. (place_at self.now.points s).point ≡ Some r.0.now) }
         ensures code { MatchOption result (code_at self.now.seat.view.offers s ≡ no_value) (λ r. code_at self.now.seat.view.offers s ≡ code r.1) }
         ensures value { MatchOption result (Unit {0}) (λ r. HasValue (program_of self.now.problem s) r.0.now r.1) }
+        ensures limit { IfSome result (λ r. IsValue r.1) }
+        ensures sound { IsSound self.now }
     {
         match self.points.get(s) {
             Some(x) => Some((x, self.problem.value(s, x))),

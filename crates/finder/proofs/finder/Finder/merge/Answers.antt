@@ -23,10 +23,10 @@ invariant_of-self c =
     let now = c.join.new.seat.view in
     let points : List Kept = c.take_better.new.self in
     let theirs_at : (s : ℕ) → s < scenario_count p → s < scenario_count q = λ s lt. subst (λ (r : Scenarios). s < scenario_count r) (sym same) lt in
-    let in_words : (s : ℕ) → s < scenario_count p → s < c.self.inside.seat.table.words = λ s lt. omega (arith, lt, i.wide) in
+    let in_words : (s : ℕ) → s < scenario_count p → s < c.self.inside.seat.table.words = λ s lt. omega (arith, lt, i.words) in
     record {
       limits = i.limits;
-      wide = ap (λ z. z.words) c.join.ensures.table ∙ i.wide;
+      words = ap (λ z. z.words) c.join.ensures.table ∙ i.words;
       places = c.take_better.ensures.len ∙ i.places;
       columns = λ s lt.
           elim (dec_le (code_at v.offers s) (code_at w.offers s)) [

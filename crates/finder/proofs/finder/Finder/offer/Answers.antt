@@ -41,7 +41,7 @@ invariant_of-self c =
     let now : List ℕ = c.offer.new.seat.view.offers in
     let wide = c.width-width.ensures.wide.offers in
     let lt = in_range c.args.self.now c.self.inside.problem.now c.args.s c.args.x.now (sym (ap (λ (f : Found). f.problem) c.self.view_is)) c.self.invariant.limits c.requires.scenario c.requires.feasible in
-    let in_offers : s < length old = omega (arith, lt, wide, i.wide) in
+    let in_offers : s < length old = omega (arith, lt, wide, i.words) in
     let in_points : s < length points = omega (arith, lt, i.places) in
     let fits : FitsSigned w64 c.value-value.result = omega (arith, ints, c.value-value.ensures.limit) in
     let real : to_z w64 (of_z w64 c.value-value.result) ≡ c.value-value.result = to_z-of_z w64 c.value-value.result fits in
@@ -63,7 +63,7 @@ invariant_of-self c =
     ]) c.beats-better.result refl in
     record {
       limits = i.limits;
-      wide = ap (λ t. t.words) c.offer.ensures.table ∙ i.wide;
+      words = ap (λ t. t.words) c.offer.ensures.table ∙ i.words;
       places = search rules;
       columns = wide_places;
       number = λ e. i.number (sym (ap (λ (u : View). u.numbers) c.offer.ensures.view) ∙ e);
