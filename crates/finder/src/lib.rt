@@ -1,0 +1,12 @@
+//! Finders: the best feasible point that a thread has found for each scenario, kept beside the thread's
+//! seat of the incumbent words.
+//!
+//! A finder's type keeps that each own least offer is the value of the kept point, and that this point is
+//! feasible. So what prunes another thread's search is always the value of a point that some finder has.
+#![tactic(auto)]
+
+mod finder;
+mod points;
+
+pub use finder::Finder;
+pub use points::BestPoints;
