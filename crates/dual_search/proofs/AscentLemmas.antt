@@ -12,7 +12,7 @@ use Rattle.int_model.specs.declared.model.Ends.{Ends}
 use Rattle.int_model.specs.declared.model.Row.{Row}
 use Rattle.scenario_changes.specs.Problems.{Scenarios, IsWithin, AreWithin, problem, program_at}
 use Rattle.dual_bounds.specs.Vectors.{KeepsLimits, program_sum}
-use Rattle.dual_bounds.specs.Merging.{counting}
+use Rattle.dual_bounds.specs.Counting.{counting}
 use Rattle.dual_search.specs.Gains.{AreReduced, AreSmall, entries_of, entry_count, gain, vector_of}
 use Rattle.dual_search.specs.Ascents.{AreAllReduced, AreBoxes, HasVector, IsCarried, vector_at, with_multiplier}
 use Rattle.dual_search.specs.declared.ascent.Ascent.{Ascent}

@@ -9,7 +9,7 @@ use Rattle.int_model.specs.Programs.{Terms}
 use Rattle.int_model.specs.RowSums.{coefficient}
 use Rattle.int_model.specs.declared.model.Ends.{Ends}
 use Rattle.dual_bounds.specs.Vectors.{Entry, AreEntries, RowsBelow, side, counted, end_sum, share}
-use Rattle.dual_bounds.specs.Merging.{counting}
+use Rattle.dual_bounds.specs.Counting.{counting}
 use Rattle.dual_search.specs.Gains.{entries_of, end_product, entry_count}
 use Rattle.dual_search.proofs.TermLemmas.{coefficient-own, coefficient-other}
 

@@ -10,7 +10,7 @@ use Rattle.int_model.specs.RowSums.{coefficient, least_product, row_at}
 use Rattle.int_model.specs.declared.model.Ends.{Ends}
 use Rattle.int_model.proofs.IntegerLaws.{add-mul, neg-mul}
 use Rattle.dual_bounds.specs.Vectors.{Entry, counted, end_sum, share, reduced_cost, least_reduced, program_sum}
-use Rattle.dual_bounds.specs.Merging.{counting}
+use Rattle.dual_bounds.specs.Counting.{counting}
 use Rattle.dual_search.specs.Gains.{entries_of, vector_of, AreReduced, column_gain, end_product, gain}
 use Rattle.dual_search.proofs.TermLemmas.{shifted-one}
 use Rattle.dual_search.proofs.EntryLemmas.{end_sum-set, share-set}

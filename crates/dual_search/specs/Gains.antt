@@ -6,7 +6,7 @@ use Rattle.int_model.specs.Programs.{Program, Terms}
 use Rattle.int_model.specs.RowSums.{least_product}
 use Rattle.int_model.specs.declared.model.Ends.{Ends}
 use Rattle.dual_bounds.specs.Vectors.{Entry, Multipliers, side, counted, reduced_cost}
-use Rattle.dual_bounds.specs.Merging.{counting}
+use Rattle.dual_bounds.specs.Counting.{counting}
 
 -- the entries of multipliers of all rows, which are numbered from i on
 abbrev pub entries_of : ℕ → List ℤ → List Entry

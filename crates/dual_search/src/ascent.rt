@@ -2,7 +2,7 @@
 ghost use Rattle.std.specs.Prelude.{◌≡◌, ◌↔◌, ◌^◌, ◌<◌, ◌≤◌, ◌+ℤ◌, ◌≤ℤ◌, ◌<ℤ◌, ℕ, pos, unsigned_abs, length, slice_set, All, IfOk, OnOk, IsTrue};
 ghost use Rattle.scenario_changes.specs.Problems.{problem as posed};
 ghost use Rattle.dual_bounds.specs.Vectors.{KeepsLimits, RowsBelow};
-ghost use Rattle.dual_bounds.specs.Merging.{IsMultiplier};
+ghost use Rattle.dual_bounds.specs.Counting.{IsMultiplier};
 ghost use Rattle.int_model.specs.Integers.{int_at};
 ghost use Rattle.dual_search.specs.Gains as gains;
 ghost use Rattle.dual_search.specs.Ascents.{AreBoxes, Ascends, HasAscended, HasVector, IsCarried, IsSameSearch, IsTop, IsTopAt, IsTopOfRow, AreAllReduced, total_of, unit, vector_at, with_multiplier};

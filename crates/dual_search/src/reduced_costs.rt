@@ -5,8 +5,8 @@ ghost use Rattle.int_model.specs.Limits.{IsBound, IsEntry};
 ghost use Rattle.int_model.specs.Programs.{AreTerms, CostsWithin};
 ghost use Rattle.int_model.specs.RowSums as sums;
 ghost use Rattle.dual_bounds.specs.Vectors as vectors;
-ghost use Rattle.dual_bounds.specs.Merging.{IsMultiplier};
-ghost use Rattle.dual_bounds.specs.Merging as merging;
+ghost use Rattle.dual_bounds.specs.Counting.{IsMultiplier};
+ghost use Rattle.dual_bounds.specs.Counting as merging;
 ghost use Rattle.dual_search.specs.Gains.{AreSmall};
 ghost use Rattle.dual_search.specs.Gains as gains;
 

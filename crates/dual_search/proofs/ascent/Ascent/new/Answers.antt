@@ -2,7 +2,7 @@ use Rattle.std.proofs.Common.{rules, arith, ◌≡◌, ◌∙◌, ap, sym, subst
 use Rattle.std.proofs.lemmas.List.{length-set}
 use Rattle.std.proofs.lemmas.Int.{ints, to_z-of_z}
 use Rattle.dual_bounds.specs.Vectors.{Entry, AreEntries, RowsBelow, KeepsLimits}
-use Rattle.dual_bounds.proofs.MergeLemmas.{row-at}
+use Rattle.dual_bounds.proofs.EntryLemmas.{row-at}
 use Rattle.dual_search.specs.Gains.{vector_of}
 use Rattle.dual_search.specs.Ascents.{vector_at}
 use Rattle.dual_search.proofs.StartLemmas.{AreTold, told-none, told-more, told-limits, told-start}

@@ -3,7 +3,7 @@ use Rattle.std.proofs.lemmas.Int.{ints, to_z-of_z}
 use mir.Syntax.{w128}
 use Rattle.int_model.specs.Integers.{int_sum_by}
 use Rattle.int_model.specs.declared.model.Ends.{Ends}
-use Rattle.dual_bounds.specs.Merging.{counting}
+use Rattle.dual_bounds.specs.Counting.{counting}
 use Rattle.dual_bounds.proofs.ProductLemmas.{wide-fits}
 use Rattle.dual_search.specs.Gains.{column_gain, end_product, gain}
 use Rattle.dual_search.proofs.reduced_costs.ReducedCosts.gain.Goals as goal

@@ -4,7 +4,7 @@ use Rattle.std.proofs.lemmas.List.{with_items_is}
 use Rattle.int_model.specs.Integers.{int_at}
 use Rattle.int_model.specs.RowSums.{coefficient}
 use Rattle.int_model.specs.declared.model.Ends.{Ends}
-use Rattle.dual_bounds.specs.Merging.{counting}
+use Rattle.dual_bounds.specs.Counting.{counting}
 use Rattle.dual_search.proofs.reduced_costs.ReducedCosts.shift.Goals as goal
 
 step_of : (ends : List Ends) (row : ℕ) (y z r : ℤ) → FitsSigned w64 y → FitsSigned w64 z → r ≡ counting ends (row, to_z w64 (of_z w64 y)) -ℤ counting ends (row, to_z w64 (of_z w64 z)) → r ≡ counting ends (row, y) -ℤ counting ends (row, z)
