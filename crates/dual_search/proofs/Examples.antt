@@ -1,11 +1,10 @@
 -- Worked examples, by computing.
-use Rattle.std.specs.Prelude.{◌≡◌, ℕ, zero, suc, ℤ, pos, negsuc, ◌-ℤ◌, unsigned_abs, List, [], ◌∷◌, Some, None, refl}
+use Rattle.std.specs.Prelude.{◌≡◌, ℕ, zero, suc, pos, negsuc, ◌-ℤ◌, unsigned_abs, [], ◌∷◌, Some, None, refl}
 use Rattle.std.proofs.Common.{arith, sym}
 use Rattle.std.proofs.lemmas.Int.{ints}
 use Rattle.int_model.specs.Boxes.{Box, box_of}
 use Rattle.scenario_changes.specs.Problems.{Problem}
-use Rattle.dual_bounds.specs.Vectors.{Entry, Multipliers}
-use Rattle.dual_bounds.proofs.Examples.{cap, m1, square, cap_row, with_entry, no_entries}
+use Rattle.dual_bounds.proofs.Examples.{cap, m1, square, with_entry, no_entries}
 use Rattle.dual_search.specs.Totals.{IsNeighbour, multiplier, total}
 use Rattle.dual_search.specs.Gains.{entries_of, gain}
 use Rattle.dual_search.proofs.TermLemmas.{coefficient-other}

@@ -1,17 +1,17 @@
 -- How a program's sum changes with the multiplier of one row.
-use Rattle.std.specs.Prelude.{◌≡◌, ◌≢◌, ℕ, zero, suc, ◌+◌, ◌*◌, ◌^◌, ◌<◌, ◌≤◌, ℤ, pos, ◌+ℤ◌, ◌-ℤ◌, ◌*ℤ◌, neg_ℤ, unsigned_abs, List, [], ◌∷◌, length, slice_index_or, slice_set, refl}
+use Rattle.std.specs.Prelude.{◌≡◌, ◌≢◌, ℕ, zero, suc, ◌+◌, ◌<◌, ℤ, pos, ◌+ℤ◌, ◌-ℤ◌, ◌*ℤ◌, neg_ℤ, List, [], ◌∷◌, length, slice_index_or, slice_set, refl}
 use Rattle.std.proofs.Common.{arith, ap, sym, ◌∙◌}
-use Rattle.std.proofs.lemmas.List.{get_or-set_same, get_or-set_other, length-set}
+use Rattle.std.proofs.lemmas.List.{get_or-set_other, length-set}
 use Rattle.std.proofs.lemmas.Int.{ints}
 use Rattle.int_model.specs.Integers.{int_at, int_sum_by}
-use Rattle.int_model.specs.Boxes.{Box, Interval, interval_at}
+use Rattle.int_model.specs.Boxes.{Box, interval_at}
 use Rattle.int_model.specs.Programs.{Program, Terms, AreTerms}
 use Rattle.int_model.specs.RowSums.{coefficient, least_product, row_at}
 use Rattle.int_model.specs.declared.model.Ends.{Ends}
 use Rattle.int_model.proofs.IntegerLaws.{add-mul, neg-mul}
-use Rattle.dual_bounds.specs.Vectors.{Entry, counted, end_sum, share, reduced_cost, least_reduced, program_sum}
+use Rattle.dual_bounds.specs.Vectors.{Entry, counted, reduced_cost, least_reduced, program_sum}
 use Rattle.dual_bounds.specs.Counting.{counting}
-use Rattle.dual_search.specs.Gains.{entries_of, vector_of, AreReduced, column_gain, end_product, gain}
+use Rattle.dual_search.specs.Gains.{entries_of, vector_of, AreReduced, column_gain, gain}
 use Rattle.dual_search.proofs.TermLemmas.{shifted-one}
 use Rattle.dual_search.proofs.EntryLemmas.{end_sum-set, share-set}
 

@@ -1,11 +1,11 @@
 -- The limits of reduced costs.
-use Rattle.std.specs.Prelude.{◌≡◌, ◌≢◌, ℕ, zero, suc, ◌+◌, ◌*◌, ◌^◌, ◌<◌, ◌≤◌, ℤ, pos, ◌+ℤ◌, ◌-ℤ◌, ◌*ℤ◌, unsigned_abs, Bool, true, false, cond, List, [], ◌∷◌, length, slice_index_or, nat_eq, nat_lt, is_some, refl}
-use Rattle.std.proofs.Common.{arith, ap, sym, subst, ◌∙◌}
+use Rattle.std.specs.Prelude.{◌≡◌, ◌≢◌, ℕ, zero, suc, ◌+◌, ◌*◌, ◌^◌, ◌<◌, ◌≤◌, ℤ, pos, ◌+ℤ◌, ◌*ℤ◌, unsigned_abs, Bool, true, false, cond, List, [], ◌∷◌, length, slice_index_or, nat_eq, nat_lt, is_some, refl}
+use Rattle.std.proofs.Common.{arith, ◌∙◌}
 use Rattle.std.proofs.lemmas.Bool.Decides.{nat_tests}
 use Rattle.std.proofs.lemmas.Int.{ints}
 use Rattle.std.proofs.lemmas.List.{get_or_past}
 use Rattle.int_model.specs.Integers.{int_at, int_sum_by}
-use Rattle.int_model.specs.Programs.{Program, Terms, AreTerms, AreRows, CostsWithin, KeepsLimits}
+use Rattle.int_model.specs.Programs.{Program, Terms, AreTerms, AreRows, KeepsLimits}
 use Rattle.int_model.specs.RowSums.{coefficient}
 use Rattle.int_model.specs.declared.model.Ends.{Ends}
 use Rattle.dual_bounds.specs.Vectors.{Entry, AreEntries, side, counted, share}

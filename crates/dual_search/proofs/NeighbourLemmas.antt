@@ -8,13 +8,13 @@ use Rattle.int_model.specs.Integers.{int_at, int_eq}
 use Rattle.int_model.specs.Boxes.{Box}
 use Rattle.int_model.specs.RowSums.{coefficient}
 use Rattle.scenario_changes.specs.Problems.{Scenarios, problem}
-use Rattle.dual_bounds.specs.Vectors.{Entry, Multipliers, AreEntries, RowsBelow, KeepsLimits}
+use Rattle.dual_bounds.specs.Vectors.{Entry, Multipliers, RowsBelow, KeepsLimits}
 use Rattle.dual_search.specs.Totals.{IsAscended, IsNeighbour, multiplier, total}
 use Rattle.dual_search.specs.Gains.{entries_of, vector_of}
 use Rattle.dual_search.specs.Ascents.{HasAscended, IsCarried, IsSameSearch, IsTop, IsTopAt, total_of, unit, vector_at, with_multiplier}
 use Rattle.dual_search.specs.declared.ascent.Ascent.{Ascent}
 use Rattle.dual_search.proofs.TermLemmas.{coefficient-own, coefficient-other}
-use Rattle.dual_search.proofs.EntryLemmas.{is-zero, zero-entries, other-entries, not-zero, entries-told, rows-below}
+use Rattle.dual_search.proofs.EntryLemmas.{is-zero, entries-told, rows-below}
 
 none-past : (n i : ℕ) (es : List Entry) → RowsBelow n es → n ≤ i → coefficient i es ≡ pos 0
 none-past n i [] below h = refl

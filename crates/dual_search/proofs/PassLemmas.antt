@@ -1,7 +1,6 @@
 -- What a pass over the rows has done so far.
-use Rattle.std.specs.Prelude.{◌≡◌, ℕ, ◌+◌, ◌<◌, ◌≤◌, ℤ, pos, ◌+ℤ◌, ◌≤ℤ◌, ◌<ℤ◌, Bool, true, false, ◌||◌, ◌⊎◌, List, length, slice_set, All, Result, Ok, Err, refl}
-use Rattle.std.specs.declared.alloc.AllocError.{AllocError}
-use Rattle.std.proofs.Common.{arith, ap, sym, subst, ◌∙◌, below_more, inl, inr}
+use Rattle.std.specs.Prelude.{◌≡◌, ℕ, ◌+◌, ◌<◌, ◌≤◌, ℤ, ◌+ℤ◌, ◌≤ℤ◌, ◌<ℤ◌, Bool, true, false, ◌||◌, List, length, slice_set, Ok, refl}
+use Rattle.std.proofs.Common.{arith, ap, sym, subst, ◌∙◌, below_more}
 use Rattle.std.proofs.lemmas.Int.{ints}
 use Rattle.int_model.specs.Integers.{int_at}
 use Rattle.int_model.specs.Boxes.{Box}
@@ -9,7 +8,7 @@ use Rattle.scenario_changes.specs.Problems.{Scenarios, problem}
 use Rattle.dual_bounds.specs.Vectors.{Multipliers, KeepsLimits}
 use Rattle.dual_search.specs.Totals.{total}
 use Rattle.dual_search.specs.Gains.{vector_of}
-use Rattle.dual_search.specs.Ascents.{AreBoxes, IsSameSearch, IsTop, IsTopAt, IsTopOfRow, Ascends, HasAscended, total_of, unit, vector_at}
+use Rattle.dual_search.specs.Ascents.{AreBoxes, IsSameSearch, IsTop, IsTopAt, IsTopOfRow, Ascends, total_of, unit, vector_at}
 use Rattle.dual_search.specs.declared.ascent.Ascent.{Ascent}
 
 pub same-search : (a b c : Ascent) → IsSameSearch a b → IsSameSearch b c → IsSameSearch a c

@@ -1,5 +1,5 @@
 -- Terms of rows, one after another.
-use Rattle.std.specs.Prelude.{◌≡◌, ◌≢◌, ℕ, zero, suc, ◌+◌, ◌^◌, ◌<◌, ◌≤◌, ℤ, pos, ◌+ℤ◌, ◌-ℤ◌, ◌*ℤ◌, unsigned_abs, Bool, List, [], ◌∷◌, ◌++◌, length, slice_index_or, slice_set, drop, true, false, nat_eq, refl}
+use Rattle.std.specs.Prelude.{◌≡◌, ◌≢◌, ℕ, zero, suc, ◌+◌, ◌<◌, ◌≤◌, ℤ, pos, ◌+ℤ◌, ◌-ℤ◌, ◌*ℤ◌, unsigned_abs, Bool, List, [], ◌∷◌, ◌++◌, length, slice_index_or, slice_set, drop, true, false, nat_eq, refl}
 use Rattle.std.proofs.Common.{arith, ap, sym, subst, ◌∙◌, drop_of_length-le, below_more}
 use Rattle.std.proofs.lemmas.List.{get_or-set_same, get_or-set_other, get_or_append_left, get_or_push}
 use Rattle.std.proofs.lemmas.Bool.Decides.{nat_tests}

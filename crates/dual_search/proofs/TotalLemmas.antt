@@ -1,6 +1,6 @@
 -- Totals over the scenarios, one after another.
-use Rattle.std.specs.Prelude.{◌≡◌, ℕ, zero, suc, ◌+◌, ◌<◌, ◌≤◌, ℤ, pos, ◌+ℤ◌, List, [], ◌∷◌, length, map, slice_index_or, slice_get, drop, Option, Some, None, All, refl}
-use Rattle.std.proofs.Common.{arith, ap, sym, subst, ◌∙◌, drop_of_length-le}
+use Rattle.std.specs.Prelude.{◌≡◌, ℕ, zero, suc, ◌<◌, ◌≤◌, ℤ, pos, ◌+ℤ◌, List, [], ◌∷◌, length, map, slice_index_or, slice_get, drop, Some}
+use Rattle.std.proofs.Common.{arith, ap, sym, ◌∙◌, drop_of_length-le}
 use Rattle.std.proofs.lemmas.List.{get_or-map, length-map}
 use Rattle.std.proofs.lemmas.Int.{ints}
 use Rattle.std.proofs.Math.Seq.{drop-cons}

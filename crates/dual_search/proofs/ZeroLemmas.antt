@@ -1,10 +1,10 @@
 -- The reduced costs where no multiplier counts.
-use Rattle.std.specs.Prelude.{◌≡◌, ◌≢◌, ℕ, zero, suc, ◌+◌, ◌^◌, ◌<◌, ◌≤◌, ℤ, pos, ◌+ℤ◌, ◌-ℤ◌, ◌*ℤ◌, unsigned_abs, List, [], ◌∷◌, ◌++◌, length, slice_index_or, replicate, All, refl}
+use Rattle.std.specs.Prelude.{◌≡◌, ℕ, zero, suc, ◌+◌, ◌<◌, ℤ, pos, ◌*ℤ◌, List, [], ◌∷◌, ◌++◌, length, slice_index_or, replicate, refl}
 use Rattle.std.proofs.Common.{arith, ap, sym, subst, ◌∙◌, below_more}
 use Rattle.std.proofs.lemmas.Int.{ints}
 use Rattle.std.proofs.lemmas.List.{get_or_append_left, get_or_push}
-use Rattle.int_model.specs.Integers.{int_at, int_eq}
-use Rattle.int_model.specs.Programs.{Program, Terms}
+use Rattle.int_model.specs.Integers.{int_at}
+use Rattle.int_model.specs.Programs.{Program}
 use Rattle.dual_bounds.specs.Vectors.{Entry, counted, reduced_cost}
 use Rattle.dual_search.specs.Gains.{entries_of, AreReduced}
 use Rattle.dual_search.specs.declared.reduced_costs.ReducedCosts.{ReducedCosts}

@@ -1,5 +1,5 @@
 -- How a scenario's sum changes with the multiplier of one row.
-use Rattle.std.specs.Prelude.{◌≡◌, ℕ, suc, ◌^◌, ◌<◌, ◌≤◌, ℤ, pos, ◌+ℤ◌, ◌-ℤ◌, ◌*ℤ◌, unsigned_abs, if◌then◌else◌, List, [], ◌∷◌, length, slice_index_or, unwrap_or}
+use Rattle.std.specs.Prelude.{◌≡◌, ℕ, suc, ◌^◌, ◌<◌, ◌≤◌, ℤ, pos, ◌+ℤ◌, ◌-ℤ◌, ◌*ℤ◌, unsigned_abs, if◌then◌else◌, List, [], ◌∷◌, length, unwrap_or}
 use Rattle.int_model.specs.Integers.{int_sum_by, int_at, int_eq}
 use Rattle.int_model.specs.Boxes.{Box, interval_at}
 use Rattle.int_model.specs.Programs.{Program, Terms}

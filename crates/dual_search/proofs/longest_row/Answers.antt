@@ -1,4 +1,4 @@
-use Rattle.std.proofs.Common.{arith, ◌≤◌, ◌≡◌, max}
+use Rattle.std.proofs.Common.{arith, ◌≤◌}
 use Rattle.dual_search.proofs.AscentLemmas.{few-terms}
 use Rattle.dual_search.proofs.longest_row.Goals as goal
 

@@ -1,4 +1,4 @@
-use Rattle.std.proofs.Common.{rules, arith, FitsSigned, w32, w64, ◌≡◌, ◌∙◌, ap, ◌^◌, ◌<◌, ◌≤◌, ℤ, ◌-ℤ◌, ◌*ℤ◌, unsigned_abs, to_z, of_z}
+use Rattle.std.proofs.Common.{rules, arith, FitsSigned, w32, w64, ◌≡◌, ◌∙◌, ap, ◌^◌, ◌≤◌, ℤ, ◌-ℤ◌, ◌*ℤ◌, unsigned_abs, to_z, of_z}
 use Rattle.std.proofs.lemmas.Int.{ints, to_z-of_z}
 use mir.Syntax.{w128}
 use Rattle.int_model.specs.Boxes.{Interval}

@@ -1,4 +1,4 @@
-use Rattle.std.proofs.Common.{rules, arith, ◌≡◌, ◌∙◌, ap, sym, ℕ, ℤ, pos, ◌-ℤ◌, ◌*ℤ◌, ◌≤◌, slice_index_or, FitsSigned, w64, w32, add-one, of_z, to_z}
+use Rattle.std.proofs.Common.{rules, arith, ◌≡◌, ◌∙◌, ap, sym, ℕ, ℤ, pos, ◌-ℤ◌, ◌*ℤ◌, slice_index_or, FitsSigned, w64, w32, add-one, of_z, to_z}
 use Rattle.std.proofs.lemmas.Int.{ints, to_z-of_z}
 use mir.Syntax.{w128}
 use Rattle.int_model.specs.Integers.{int_sum_by}

@@ -1,4 +1,4 @@
-use Rattle.std.proofs.Common.{rules, arith, ◌≡◌, ◌∙◌, ap, ℕ, ℤ, pos, ◌+◌, ◌<◌, ◌≤◌, ◌-◌, ◌^◌, length, leb, true, false, unsigned_abs, neg_ℤ, FitsSigned, w64, of_z, to_z}
+use Rattle.std.proofs.Common.{rules, arith, ◌≡◌, ◌∙◌, ap, ℕ, ℤ, pos, ◌≤◌, ◌^◌, leb, true, false, unsigned_abs, neg_ℤ, FitsSigned, w64, of_z, to_z}
 use Rattle.std.proofs.lemmas.List.{get_or_read}
 use Rattle.std.specs.Prelude.{int_lt}
 use Rattle.std.proofs.lemmas.Int.{ints, to_z-of_z}

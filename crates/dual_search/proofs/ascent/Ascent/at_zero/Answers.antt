@@ -2,8 +2,7 @@ use Rattle.std.proofs.Common.{rules, arith, ◌≡◌, ◌∙◌, ap, sym, subst
 use Rattle.std.specs.Prelude.{All}
 use Rattle.std.proofs.lemmas.List.{length_push}
 use Rattle.int_model.specs.Integers.{int_at}
-use Rattle.scenario_changes.specs.Problems.{Scenarios, problem, program_at}
-use Rattle.dual_search.specs.Gains.{entries_of}
+use Rattle.scenario_changes.specs.Problems.{problem, program_at}
 use Rattle.dual_search.specs.declared.reduced_costs.ReducedCosts.{ReducedCosts}
 use Rattle.dual_search.proofs.ZeroLemmas.{IsScaled, no-entries, scaled-reduced, pushed-costs}
 use Rattle.dual_search.proofs.ascent.Ascent.at_zero.Goals as goal

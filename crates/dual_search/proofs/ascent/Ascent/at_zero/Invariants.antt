@@ -1,5 +1,4 @@
-use Rattle.std.proofs.Common.{◌≡◌, ℕ, ◌<◌, pos, ◌*ℤ◌, length, slice_index_or}
-use Rattle.int_model.specs.Integers.{int_at}
+use Rattle.std.proofs.Common.{◌≡◌, ℕ, ◌<◌, length, slice_index_or}
 use Rattle.scenario_changes.specs.Problems.{problem, program_at}
 use Rattle.dual_search.specs.declared.reduced_costs.ReducedCosts.{ReducedCosts}
 use Rattle.dual_search.proofs.ZeroLemmas.{IsScaled}

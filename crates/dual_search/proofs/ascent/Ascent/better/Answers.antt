@@ -1,5 +1,5 @@
-use Rattle.std.proofs.Common.{rules, arith, length, ◌<◌, w64, FitsSigned, of_z, to_z}
-use Rattle.std.proofs.lemmas.Int.{ints, to_z-of_z}
+use Rattle.std.proofs.Common.{arith, length, ◌<◌, w64, FitsSigned, of_z, to_z}
+use Rattle.std.proofs.lemmas.Int.{to_z-of_z}
 use Rattle.dual_search.proofs.AscentLemmas.{limits-told}
 use Rattle.dual_search.proofs.ascent.Ascent.better.Goals as goal
 

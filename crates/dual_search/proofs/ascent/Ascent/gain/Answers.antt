@@ -1,15 +1,12 @@
-use Rattle.std.proofs.Common.{rules, arith, ◌≡◌, ◌∙◌, ap, sym, ℕ, ℤ, pos, ◌^◌, ◌*◌, ◌<◌, ◌≤◌, ◌+ℤ◌, length, unsigned_abs, FitsSigned, w64, of_z, to_z, add-one}
+use Rattle.std.proofs.Common.{rules, arith, ◌≡◌, ◌∙◌, ap, ℤ, pos, ◌^◌, ◌<◌, ◌≤◌, length, unsigned_abs, FitsSigned, w64, of_z, to_z, add-one}
 use Rattle.std.proofs.lemmas.List.{get_or_read}
 use Rattle.std.proofs.lemmas.Int.{ints, to_z-of_z}
-use mir.Syntax.{w128}
 use Rattle.int_model.specs.Integers.{int_at}
 use Rattle.scenario_changes.specs.Problems.{Scenarios, problem}
-use Rattle.dual_bounds.proofs.ProductLemmas.{wide-fits}
 use Rattle.dual_search.specs.Ascents.{vector_at, with_multiplier}
 use Rattle.dual_search.specs.declared.ascent.Ascent.{Ascent}
-use Rattle.dual_search.specs.declared.reduced_costs.ReducedCosts.{ReducedCosts}
-use Rattle.dual_search.proofs.TotalLemmas.{apart-none, apart-more, apart-all}
-use Rattle.dual_search.proofs.AscentLemmas.{few-terms, IsScenarioAt, scenario-at, IsRowAt, row-of, terms-reduced, box-columns, scenario-gain}
+use Rattle.dual_search.proofs.TotalLemmas.{apart-more}
+use Rattle.dual_search.proofs.AscentLemmas.{few-terms, scenario-at, row-of, box-columns, scenario-gain}
 use Rattle.dual_search.proofs.ascent.Ascent.gain.Goals as goal
 
 pub gain-gain-requires-clause-few : goal.gain-gain-requires-clause-few

@@ -1,5 +1,5 @@
-use Rattle.std.proofs.Common.{rules, arith, ◌≡◌, ◌+ℤ◌, ◌<ℤ◌, ℤ, pos, refl, Bool, true, false, List, ℕ, subst, w64, FitsSigned, of_z, to_z}
-use Rattle.std.specs.Prelude.{IsTrue, int_lt}
+use Rattle.std.proofs.Common.{rules, arith, ◌≡◌, ◌+ℤ◌, ◌<ℤ◌, ℤ, pos, refl, Bool, true, false, List, subst, w64, FitsSigned, of_z, to_z}
+use Rattle.std.specs.Prelude.{int_lt}
 use Rattle.std.proofs.lemmas.Int.{ints, to_z-of_z}
 use mir.Syntax.{w128}
 use Rattle.int_model.specs.Boxes.{Box}
@@ -29,6 +29,7 @@ returns c =
     let fits : FitsSigned w128 c.gain.result = search rules in
     let to_fits : FitsSigned w64 c.args.to = c.ranges.to in
     let grows : total_of p a boxes (with_multiplier a c.args.row c.args.to) ≡ total_of p a boxes (vector_at a) +ℤ c.gain.result =
-        subst (λ (z : ℤ). total_of p a boxes (with_multiplier a c.args.row z) ≡ total_of p a boxes (vector_at a) +ℤ c.gain.result) (to_z-of_z w64 c.args.to to_fits) c.gain.ensures in
-    (above (total_of p a boxes (with_multiplier a c.args.row c.args.to)) (total_of p a boxes (vector_at a)) c.gain.result grows fits,
-    below (total_of p a boxes (with_multiplier a c.args.row c.args.to)) (total_of p a boxes (vector_at a)) c.gain.result grows fits)
+    subst (λ (z : ℤ). total_of p a boxes (with_multiplier a c.args.row z) ≡ total_of p a boxes (vector_at a) +ℤ c.gain.result) (to_z-of_z w64 c.args.to to_fits) c.gain.ensures in (
+      above (total_of p a boxes (with_multiplier a c.args.row c.args.to)) (total_of p a boxes (vector_at a)) c.gain.result grows fits,
+      below (total_of p a boxes (with_multiplier a c.args.row c.args.to)) (total_of p a boxes (vector_at a)) c.gain.result grows fits,
+    )

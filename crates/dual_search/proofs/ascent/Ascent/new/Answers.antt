@@ -1,10 +1,8 @@
-use Rattle.std.proofs.Common.{rules, arith, ◌≡◌, ◌∙◌, ap, sym, subst, ℕ, suc, ℤ, pos, ◌+◌, ◌<◌, ◌≤◌, ◌^◌, List, length, slice_index_or, slice_set, add-one, FitsSigned, w64, of_z, to_z}
+use Rattle.std.proofs.Common.{rules, arith, ◌≡◌, ◌∙◌, ap, sym, subst, ℕ, suc, ℤ, pos, ◌≤◌, List, length, slice_index_or, slice_set, add-one, FitsSigned, w64}
 use Rattle.std.proofs.lemmas.List.{length-set}
-use Rattle.std.proofs.lemmas.Int.{ints, to_z-of_z}
-use Rattle.dual_bounds.specs.Vectors.{Entry, AreEntries, RowsBelow, KeepsLimits}
+use Rattle.std.proofs.lemmas.Int.{to_z-of_z}
+use Rattle.dual_bounds.specs.Vectors.{Entry, AreEntries, RowsBelow}
 use Rattle.dual_bounds.proofs.EntryLemmas.{row-at}
-use Rattle.dual_search.specs.Gains.{vector_of}
-use Rattle.dual_search.specs.Ascents.{vector_at}
 use Rattle.dual_search.proofs.StartLemmas.{AreTold, told-none, told-more, told-limits, told-start}
 use Rattle.dual_search.proofs.ascent.Ascent.new.Goals as goal
 

@@ -1,8 +1,8 @@
-use Rattle.std.proofs.Common.{rules, arith, ◌≡◌, ◌∙◌, ap, subst, List, ℕ, ℤ, pos, ◌+◌, ◌-◌, ◌<◌, ◌≤◌, ◌^◌, length, slice_set, unsigned_abs, FitsSigned, w64, of_z, to_z}
+use Rattle.std.proofs.Common.{rules, arith, ◌≡◌, ◌∙◌, ap, subst, List, ℤ, pos, ◌<◌, length, slice_set, FitsSigned, w64, of_z, to_z}
 use Rattle.std.proofs.lemmas.List.{get_or_read}
-use Rattle.std.proofs.lemmas.Int.{ints, to_z-of_z}
+use Rattle.std.proofs.lemmas.Int.{to_z-of_z}
 use Rattle.int_model.specs.Integers.{int_at}
-use Rattle.dual_search.specs.Gains.{entries_of, entry_count}
+use Rattle.dual_search.specs.Gains.{entry_count}
 use Rattle.dual_search.specs.Ascents.{AreAllReduced}
 use Rattle.dual_search.proofs.AscentLemmas.{limits-told, entries-after, carried-moved}
 use Rattle.dual_search.proofs.ascent.Ascent.set.Goals as goal

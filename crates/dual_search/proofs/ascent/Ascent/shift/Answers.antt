@@ -1,6 +1,6 @@
-use Rattle.std.proofs.Common.{rules, arith, ◌≡◌, ◌∙◌, ap, ℕ, ℤ, pos, ◌^◌, ◌<◌, ◌≤◌, List, length, slice_index_or, slice_set, unsigned_abs, FitsSigned, w64, of_z, to_z}
+use Rattle.std.proofs.Common.{rules, arith, ◌≡◌, ◌∙◌, ap, ℕ, ℤ, ◌<◌, List, length, slice_index_or, slice_set, w64, of_z, to_z}
 use Rattle.std.proofs.lemmas.List.{length-set}
-use Rattle.std.proofs.lemmas.Int.{ints, to_z-of_z}
+use Rattle.std.proofs.lemmas.Int.{to_z-of_z}
 use Rattle.int_model.specs.Integers.{int_at}
 use Rattle.scenario_changes.specs.Problems.{Scenarios, problem, program_at}
 use Rattle.dual_search.specs.Gains.{AreReduced}

@@ -1,4 +1,4 @@
-use Rattle.std.proofs.Common.{rules, arith}
+use Rattle.std.proofs.Common.{arith}
 use Rattle.dual_search.proofs.ascent.Ascent.vector.Goals as goal
 
 pub overflow_cast-row : goal.overflow_cast-row

@@ -1,11 +1,11 @@
-use Rattle.std.proofs.Common.{rules, arith, ◌≡◌, ◌∙◌, ap, ℕ, ℤ, pos, ◌^◌, ◌+ℤ◌, ◌-ℤ◌, ◌≤◌, List, unsigned_abs, FitsSigned, w64, of_z, to_z}
+use Rattle.std.proofs.Common.{rules, arith, ◌≡◌, ◌∙◌, ap, ℕ, ℤ, ◌^◌, ◌+ℤ◌, ◌-ℤ◌, ◌≤◌, List, unsigned_abs, FitsSigned, w64, of_z, to_z}
 use Rattle.std.proofs.lemmas.Int.{ints, to_z-of_z}
 use mir.Syntax.{w128}
 use Rattle.int_model.specs.Integers.{int_sum_by}
 use Rattle.int_model.specs.declared.model.Ends.{Ends}
 use Rattle.dual_bounds.specs.Counting.{counting}
 use Rattle.dual_bounds.proofs.ProductLemmas.{wide-fits}
-use Rattle.dual_search.specs.Gains.{column_gain, end_product, gain}
+use Rattle.dual_search.specs.Gains.{column_gain, end_product}
 use Rattle.dual_search.proofs.reduced_costs.ReducedCosts.gain.Goals as goal
 
 difference : (a b : ℤ) → unsigned_abs a ≤ 2 ^ 103 → unsigned_abs b ≤ 2 ^ 103 → to_z w128 (of_z w128 (to_z w128 (of_z w128 a) -ℤ to_z w128 (of_z w128 b))) ≡ a -ℤ b

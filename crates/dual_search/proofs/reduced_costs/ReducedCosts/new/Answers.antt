@@ -1,4 +1,4 @@
-use Rattle.std.proofs.Common.{rules, arith, ◌≡◌, ◌∙◌, ap, ℕ, ℤ, pos, ◌+◌, ◌*ℤ◌, ◌^◌, ◌++◌, [], ◌∷◌, length, slice_index_or, FitsSigned, w64, of_z, to_z}
+use Rattle.std.proofs.Common.{rules, arith, ◌≡◌, ◌∙◌, ap, ℕ, pos, ◌+◌, ◌*ℤ◌, ◌^◌, ◌++◌, [], ◌∷◌, length, slice_index_or, FitsSigned, w64, of_z, to_z}
 use Rattle.std.proofs.lemmas.Int.{ints, to_z-of_z}
 use Rattle.std.proofs.lemmas.List.{length_push}
 use mir.Syntax.{w128}
