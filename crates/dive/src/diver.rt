@@ -43,6 +43,11 @@ impl Diver {
         self.conflicts >= MOST_CONFLICTS
     }
 
+    /// Whether there were half as many conflicts.
+    pub(crate) fn is_half_tired(&self) -> bool {
+        self.conflicts >= MOST_CONFLICTS / 2
+    }
+
     /// The low end of each interval.
     pub(crate) fn lows(&self) -> &[i32]
         ensures { result.now ≡ self.now.engine.low.items }

@@ -39,7 +39,7 @@ fn fix_all(
 }
 
 // Fixes the columns, and begins again at a dead end, with the column that was the dead end as the first
-// one.
+// one. After half of the conflicts the other numbers of all columns are tried.
 fn descend(
     diver: &mut Diver,
     problem: &Problem,
@@ -65,7 +65,7 @@ fn descend(
         if diver.is_tired() {
             break;
         }
-        plan.prefer(place)?;
+        plan.revise(place, diver.is_half_tired())?;
         if !diver.restart(problem, s, bounds)? {
             break;
         }
