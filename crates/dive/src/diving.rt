@@ -62,10 +62,10 @@ fn descend(
         let Some(place) = fix_all(diver, problem, s, plan)? else {
             break;
         };
-        if diver.is_tired() {
+        if diver.is_at_limit() {
             break;
         }
-        plan.revise(place, diver.is_half_tired())?;
+        plan.revise(place, diver.is_past_half())?;
         if !diver.restart(problem, s, bounds)? {
             break;
         }

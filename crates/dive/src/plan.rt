@@ -19,7 +19,7 @@ pub(crate) struct Plan {
     pub(crate) targets: Vec<i64>,
     pub(crate) others: Vec<i64>,
     // Whether the two numbers of each column were exchanged.
-    is_turned: bool,
+    is_exchanged: bool,
 }
 
 impl Plan {
@@ -57,7 +57,7 @@ impl Plan {
             order,
             targets,
             others,
-            is_turned: false,
+            is_exchanged: false,
         })
     }
 
@@ -75,7 +75,7 @@ impl Plan {
             order: ranked(alloc, &keys)?,
             targets: numbers.to_vec(alloc)?,
             others: numbers.to_vec(alloc)?,
-            is_turned: false,
+            is_exchanged: false,
         })
     }
 
@@ -90,10 +90,10 @@ impl Plan {
         if !is_late {
             return Ok(());
         }
-        if self.is_turned {
+        if self.is_exchanged {
             return Ok(());
         }
-        self.turn();
+        self.exchange_numbers();
         Ok(())
     }
 
@@ -110,11 +110,11 @@ impl Plan {
     }
 
     // Exchanges the two numbers of each column.
-    fn turn(&mut self)
+    fn exchange_numbers(&mut self)
         requires { IsPlan (length self.old.targets.items) self.old }
         ensures { IsPlan (length self.old.targets.items) self.new }
     {
         mem::swap(&mut self.targets, &mut self.others);
-        self.is_turned = true;
+        self.is_exchanged = true;
     }
 }

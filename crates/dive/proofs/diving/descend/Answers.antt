@@ -17,5 +17,5 @@ loop-preserved c = record {
 pub returns-in_default-clause-part : goal.returns-in_default-clause-part
 returns-in_default-clause-part c = part-trans (box_in c.fix_all.new.diver.engine) (box_in c.loop.diver.engine) c.args.bounds.now c.in_ok-place.ensures.part c.loop.invariant.part
 
-pub returns-then-is_tired-clause-part : goal.returns-then-is_tired-clause-part
-returns-then-is_tired-clause-part c = part-trans (box_in c.fix_all.new.diver.engine) (box_in c.loop.diver.engine) c.args.bounds.now c.in_ok-place.ensures.part c.loop.invariant.part
+pub returns-then-is_at_limit-clause-part : goal.returns-then-is_at_limit-clause-part
+returns-then-is_at_limit-clause-part c = part-trans (box_in c.fix_all.new.diver.engine) (box_in c.loop.diver.engine) c.args.bounds.now c.in_ok-place.ensures.part c.loop.invariant.part
