@@ -1,3 +1,4 @@
 pub mod PartLemmas
 pub mod FollowLemmas
 pub mod EndLemmas
+pub mod Examples

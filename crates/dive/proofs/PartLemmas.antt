@@ -3,6 +3,7 @@ use Rattle.std.proofs.Common.{◌≡◌, ◌∙◌, ap, sym, subst, refl, ℕ, z
 use Rattle.std.specs.Prelude.{slice_index_or, slice_set, option_and_then, if◌then◌else◌}
 use Rattle.std.specs.Int.{int_div_euclid, int_max, int_min}
 use Rattle.std.proofs.lemmas.Int.{ints, clamps}
+use Rattle.std.proofs.lemmas.List.{length-map}
 use Rattle.int_model.specs.Limits.{IsBound}
 use Rattle.int_model.specs.Models.{IntegerModel}
 use Rattle.int_model.specs.Boxes.{Box, Interval, box_of, InBox, interval_at, is_empty, at_most, at_least}
@@ -161,3 +162,15 @@ part-by-sides (i ∷ a) [] same h = absurd (omega arith)
 part-by-sides (i ∷ a) (k ∷ b) same h =
     let first : IsIn i k = h 0 (omega arith) in
     (first.low, first.high, part-by-sides a b (omega arith) (λ j l. h (suc j) (omega arith)))
+
+pub sides-part : (a b : Box) (al ah bl bh : List ℤ) → al ≡ map (λ (i : Interval). i.low) a → ah ≡ map (λ (i : Interval). i.high) a → bl ≡ map (λ (i : Interval). i.low) b → bh ≡ map (λ (i : Interval). i.high) b → length al ≡ length bl → ((k : ℕ) → k < length bl → (slice_index_or bl k (pos 0) ≤ℤ slice_index_or al k (pos 0)) × (slice_index_or ah k (pos 0) ≤ℤ slice_index_or bh k (pos 0))) → IsPart a b
+sides-part a b al ah bl bh e f g h same inside =
+    let a_count : length al ≡ length a = ap length e ∙ length-map a (λ (i : Interval). i.low) in
+    let b_count : length bl ≡ length b = ap length g ∙ length-map b (λ (i : Interval). i.low) in
+    part-by-sides a b (omega (arith, a_count, b_count, same)) (λ k l.
+    let a_low = ap (λ (z : List ℤ). slice_index_or z k (pos 0)) e ∙ lows-at a k in
+    let a_high = ap (λ (z : List ℤ). slice_index_or z k (pos 0)) f ∙ highs-at a k in
+    let b_low = ap (λ (z : List ℤ). slice_index_or z k (pos 0)) g ∙ lows-at b k in
+    let b_high = ap (λ (z : List ℤ). slice_index_or z k (pos 0)) h ∙ highs-at b k in
+    let here = inside k (omega (arith, l, b_count)) in
+    record { low = omega (arith, ints, a_low, b_low, here.0); high = omega (arith, ints, a_high, b_high, here.1) })

@@ -39,8 +39,13 @@ impl Diver {
     }
 
     /// Whether there were so many conflicts that the dive ends.
-    pub(crate) fn is_tired(&self) -> bool {
+    pub(crate) fn is_at_limit(&self) -> bool {
         self.conflicts >= MOST_CONFLICTS
+    }
+
+    /// Whether there were half as many conflicts.
+    pub(crate) fn is_past_half(&self) -> bool {
+        self.conflicts >= MOST_CONFLICTS / 2
     }
 
     /// The low end of each interval.
@@ -157,7 +162,7 @@ impl Diver {
         if self.try_interval(problem, s, column, number, number)? {
             return Ok(true);
         }
-        if self.is_tired() {
+        if self.is_at_limit() {
             return Ok(false);
         }
         let (next, end) = beside(target, number, low, high);

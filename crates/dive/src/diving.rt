@@ -39,7 +39,7 @@ fn fix_all(
 }
 
 // Fixes the columns, and begins again at a dead end, with the column that was the dead end as the first
-// one.
+// one. After half of the conflicts the other numbers of all columns are tried.
 fn descend(
     diver: &mut Diver,
     problem: &Problem,
@@ -62,10 +62,10 @@ fn descend(
         let Some(place) = fix_all(diver, problem, s, plan)? else {
             break;
         };
-        if diver.is_tired() {
+        if diver.is_at_limit() {
             break;
         }
-        plan.prefer(place)?;
+        plan.revise(place, diver.is_past_half())?;
         if !diver.restart(problem, s, bounds)? {
             break;
         }

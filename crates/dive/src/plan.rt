@@ -9,14 +9,17 @@ use crate::rounding::{distance_from_whole, fixed_point};
 use int_model::{NearPoint, PointBox};
 use scenario_changes::Problem;
 use std::alloc::{AllocError, Global};
+use std::mem;
 
 /// The columns in the order in which they are fixed, and for each column the fixed-point number near which
-/// it is fixed, with the one that takes its place after a dead end at the column.
+/// it is fixed, with the one that takes its place after a dead end.
 #[derive(Drop)]
 pub(crate) struct Plan {
     pub(crate) order: Vec<u32>,
     pub(crate) targets: Vec<i64>,
     pub(crate) others: Vec<i64>,
+    // Whether the two numbers of each column were exchanged.
+    is_exchanged: bool,
 }
 
 impl Plan {
@@ -54,6 +57,7 @@ impl Plan {
             order,
             targets,
             others,
+            is_exchanged: false,
         })
     }
 
@@ -71,11 +75,30 @@ impl Plan {
             order: ranked(alloc, &keys)?,
             targets: numbers.to_vec(alloc)?,
             others: numbers.to_vec(alloc)?,
+            is_exchanged: false,
         })
     }
 
-    /// Makes the column at a place of the order the first one, and gives it its other number.
-    pub(crate) fn prefer(&mut self, place: usize) -> Result<(), AllocError>
+    /// After a dead end at a place of the order: its column comes first, and gets its other number. Late
+    /// in a dive all columns get their other numbers, once.
+    pub(crate) fn revise(&mut self, place: usize, is_late: bool) -> Result<(), AllocError>
+        requires plan { IsPlan (length self.old.targets.items) self.old }
+        requires place { place < length self.old.order.items }
+        ensures { OnOk result (IsPlan (length self.old.targets.items) self.new) }
+    {
+        self.prefer(place)?;
+        if !is_late {
+            return Ok(());
+        }
+        if self.is_exchanged {
+            return Ok(());
+        }
+        self.exchange_numbers();
+        Ok(())
+    }
+
+    // Makes the column at a place of the order the first one, and gives it its other number.
+    fn prefer(&mut self, place: usize) -> Result<(), AllocError>
         requires plan { IsPlan (length self.old.targets.items) self.old }
         requires place { place < length self.old.order.items }
         ensures { OnOk result (IsPlan (length self.old.targets.items) self.new) }
@@ -84,5 +107,14 @@ impl Plan {
         self.order.insert(0, column)?;
         self.targets[column as usize] = self.others[column as usize];
         Ok(())
+    }
+
+    // Exchanges the two numbers of each column.
+    fn exchange_numbers(&mut self)
+        requires { IsPlan (length self.old.targets.items) self.old }
+        ensures { IsPlan (length self.old.targets.items) self.new }
+    {
+        mem::swap(&mut self.targets, &mut self.others);
+        self.is_exchanged = true;
     }
 }

@@ -119,25 +119,32 @@ fn dived(
     Ok(found)
 }
 
-// The value of the point that a dive into the whole bounds finds, near a point where there is one.
+// The sum of the costs times the numbers of a point.
+fn value_at(costs: &[i64], x: &[i32]) -> i64 {
+    let mut value: i64 = 0;
+    for (j, number) in x.iter().enumerate() {
+        let cost = costs.get(j).copied().unwrap_or(0);
+        value = value.saturating_add(cost.saturating_mul(i64::from(*number)));
+    }
+    value
+}
+
+// The value of the point that a dive into the whole bounds finds, which is feasible, and 0 where it finds
+// none.
 fn found_value(
     rt: &impl Abort,
     alloc: Global,
     problem: &Problem,
     near: Option<&NearPoint>,
-) -> Result<Option<i64>, Fail> {
+) -> Result<i64, Fail> {
     assert!(rt; problem.count() == 1);
     let bounds = PointBox::from_ends(alloc, problem.lows(0), problem.highs(0))?;
     match dived(rt, alloc, problem, &bounds, near)? {
         Dive::Point(point) => {
             assert!(rt; problem.meets(0, point.as_slice()));
-            let mut value: i64 = 0;
-            for (cost, number) in problem.costs(0).iter().zip(point.as_slice()) {
-                value = value.saturating_add(cost.saturating_mul(i64::from(*number)));
-            }
-            Ok(Some(value))
+            Ok(value_at(problem.costs(0), point.as_slice()))
         }
-        Dive::Stuck { .. } => Ok(None),
+        Dive::Stuck { .. } => Ok(0),
     }
 }
 
@@ -181,7 +188,7 @@ fn near_of(alloc: Global, numbers: &[i32]) -> Result<NearPoint, AllocError> {
 }
 
 #[test]
-fn single_points(rt: HostRuntime) -> Result<(), Fail> {
+fn feasible_single_point(rt: HostRuntime) -> Result<(), Fail> {
     let alloc = rt.alloc();
     let problem = two_products(alloc)?;
     let bounds = PointBox::from_ends(alloc, &[1, 2], &[1, 2])?;
@@ -189,6 +196,13 @@ fn single_points(rt: HostRuntime) -> Result<(), Fail> {
         Dive::Point(point) => assert!(rt; point.as_slice() == [1, 2].as_slice()),
         Dive::Stuck { .. } => assert!(rt; false),
     }
+    Ok(())
+}
+
+#[test]
+fn infeasible_single_point(rt: HostRuntime) -> Result<(), Fail> {
+    let alloc = rt.alloc();
+    let problem = two_products(alloc)?;
     let bounds = PointBox::from_ends(alloc, &[3, 3], &[3, 3])?;
     match dived(&rt, alloc, &problem, &bounds, None)? {
         Dive::Point(_) => assert!(rt; false),
@@ -200,33 +214,42 @@ fn single_points(rt: HostRuntime) -> Result<(), Fail> {
     Ok(())
 }
 
-// A dive finds the best point of the covering (5), the packing (-5) and the assignment (5), and of the
-// knapsack one of -6, where the best has -7. Best values were found by trying all points.
+// Best values were found by trying all points. Here the best one is 5, and the dive finds it.
 #[test]
-fn values_by_cost(rt: HostRuntime) -> Result<(), Fail> {
-    let alloc = rt.alloc();
-    let covering = pairs(alloc, [3, 2, 4], RowSense::G)?;
-    assert_eq!(rt; found_value(&rt, alloc, &covering, None)?, Some(5));
-    let packing = pairs(alloc, [-5, -4, -3], RowSense::L)?;
-    assert_eq!(rt; found_value(&rt, alloc, &packing, None)?, Some(-5));
-    let things = knapsack(alloc)?;
-    assert_eq!(rt; found_value(&rt, alloc, &things, None)?, Some(-6));
-    let tasks = assignment(alloc)?;
-    assert_eq!(rt; found_value(&rt, alloc, &tasks, None)?, Some(5));
+fn covering(rt: HostRuntime) -> Result<(), Fail> {
+    let problem = pairs(rt.alloc(), [3, 2, 4], RowSense::G)?;
+    assert_eq!(rt; found_value(&rt, rt.alloc(), &problem, None)?, 5);
     Ok(())
 }
 
-// Near the best point of the knapsack, and near a point outside the bounds whose nearest point is too heavy.
+// The best value is -5, and the dive finds it.
 #[test]
-fn values_near_points(rt: HostRuntime) -> Result<(), Fail> {
+fn packing(rt: HostRuntime) -> Result<(), Fail> {
+    let problem = pairs(rt.alloc(), [-5, -4, -3], RowSense::L)?;
+    assert_eq!(rt; found_value(&rt, rt.alloc(), &problem, None)?, -5);
+    Ok(())
+}
+
+// The best value is 5, and the dive finds it.
+#[test]
+fn tasks(rt: HostRuntime) -> Result<(), Fail> {
+    let problem = assignment(rt.alloc())?;
+    assert_eq!(rt; found_value(&rt, rt.alloc(), &problem, None)?, 5);
+    Ok(())
+}
+
+// The best value is -7. It is found near the best point. By costs, near a point outside the bounds whose
+// nearest point is too heavy, and near one of another length, which counts as none, -6 is found.
+#[test]
+fn things(rt: HostRuntime) -> Result<(), Fail> {
     let alloc = rt.alloc();
-    let things = knapsack(alloc)?;
+    let problem = knapsack(alloc)?;
     let best = near_of(alloc, &[0, 1, 1, 0])?;
-    assert_eq!(rt; found_value(&rt, alloc, &things, Some(&best))?, Some(-7));
+    assert_eq!(rt; found_value(&rt, alloc, &problem, Some(&best))?, -7);
+    assert_eq!(rt; found_value(&rt, alloc, &problem, None)?, -6);
     let heavy = near_of(alloc, &[9, -9, 9, -9])?;
-    assert_eq!(rt; found_value(&rt, alloc, &things, Some(&heavy))?, Some(-6));
-    // A near point of another length counts as none.
+    assert_eq!(rt; found_value(&rt, alloc, &problem, Some(&heavy))?, -6);
     let short = near_of(alloc, &[0, 1, 1])?;
-    assert_eq!(rt; found_value(&rt, alloc, &things, Some(&short))?, Some(-6));
+    assert_eq!(rt; found_value(&rt, alloc, &problem, Some(&short))?, -6);
     Ok(())
 }
