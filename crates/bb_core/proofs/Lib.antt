@@ -1,3 +1,4 @@
 pub mod ListWrites
 pub mod TreeSteps
 pub mod CoverageLaws
+pub mod Examples

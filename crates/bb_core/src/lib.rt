@@ -11,3 +11,6 @@ mod work;
 
 pub use cuts::Cuts;
 pub use work::{Hint, Outcome, Settlement, Work};
+
+#[cfg(test)]
+mod tests;

@@ -1,0 +1,41 @@
+-- The levels where the searches of all scenarios start.
+use Rattle.std.specs.Prelude.{◌≡◌, ℕ, zero, suc, ◌+◌, ◌<◌, ◌≤◌, List, [], ◌∷◌, ◌++◌, length, map, take, slice_index_or, true, cond, nat_eq, Option, Some, None, refl}
+use Rattle.std.specs.List.{list_any, range_with_len}
+use Rattle.std.proofs.Common.{arith, ap, ◌∙◌}
+use Rattle.std.proofs.lemmas.List.{take_all}
+use Rattle.int_model.specs.Boxes.{Box}
+use Rattle.int_model.specs.Programs.{Program}
+use Rattle.scenario_changes.specs.Problems.{Problem, root_box}
+use Rattle.certs.specs.Verdicts.{start_level}
+use Rattle.certs.specs.declared.level.Level.{Level}
+use Rattle.live_sets.proofs.RisingLists.{in_range-from}
+use Rattle.bb_core.specs.Settlements.{of_live}
+use Rattle.bb_core.specs.Coverage.{open_at, root_slot}
+use Rattle.open_pool.proofs.SetLemmas.{in_any}
+
+-- a list made item by item
+map_suc : {X Y : Type 0} (f : X → Y) (xs : List X) (k : ℕ) (d : X) → k < length xs → map f (take k xs) ++ f (slice_index_or xs k d) ∷ [] ≡ map f (take (suc k) xs)
+map_suc f [] k d l = absurd (omega arith)
+map_suc f (x ∷ xs) zero d l = refl
+map_suc {Y = Y} f (x ∷ xs) (suc k) d l = ap (λ (ys : List Y). f x ∷ ys) (map_suc f xs k d (omega arith))
+
+pub map_next : {X Y : Type 0} (f : X → Y) (xs : List X) (k : ℕ) (d : X) → k < length xs → map f (take k xs) ++ f (slice_index_or xs k d) ∷ [] ≡ map f (take (k + 1) xs)
+map_next f xs k d l = let n : suc k ≡ k + 1 = omega arith in map_suc f xs k d l ∙ ap (λ (j : ℕ). map f (take j xs)) n
+
+pub map_done : {X Y : Type 0} (f : X → Y) (xs : List X) (k : ℕ) → length xs ≤ k → map f (take k xs) ≡ map f xs
+map_done {X = X} f xs k l = ap (λ (ys : List X). map f ys) (take_all k xs l)
+
+-- where every scenario is live, each has its level
+live_all : (live : List ℕ) (j : ℕ) (f : Program → Level) (ss : List Program) → ((k : ℕ) → j ≤ k → k < j + length ss → list_any (nat_eq k) live ≡ true) → of_live live j (map f ss) ≡ map (λ (s : Program). Some (f s)) ss
+live_all live j f [] h = refl
+live_all live j f (s ∷ ss) h =
+    ap (λ b. cond b (Some (f s)) None ∷ of_live live (suc j) (map f ss)) (h j (omega arith) (omega arith))
+    ∙ ap (λ (ls : List (Option Level)). Some (f s) ∷ ls) (live_all live (suc j) f ss (λ k a b. h k (omega arith) (omega arith)))
+
+pub root_is : (p : Problem) (box : Box) (live : List ℕ) (levels : List Level) (count : ℕ) → count ≡ length p.scenarios → box ≡ root_box p.scenarios → live ≡ range_with_len 0 count → levels ≡ map (λ (s : Program). start_level (root_box p.scenarios) s) p.scenarios → open_at box (of_live live 0 levels) ≡ root_slot p
+root_is p box live levels count n b l e =
+    let all = live_all (range_with_len 0 count) 0 (λ (s : Program). start_level (root_box p.scenarios) s) p.scenarios (λ k a c. in_any k (range_with_len 0 count) (in_range-from 0 count k a (omega (arith, c, n)))) in
+    ap (λ (x : Box). open_at x (of_live live 0 levels)) b
+    ∙ ap (λ (ks : List ℕ). open_at (root_box p.scenarios) (of_live ks 0 levels)) l
+    ∙ ap (λ (ls : List Level). open_at (root_box p.scenarios) (of_live (range_with_len 0 count) 0 ls)) e
+    ∙ ap (λ (ls : List (Option Level)). open_at (root_box p.scenarios) ls) all

@@ -1,0 +1,25 @@
+use Rattle.std.proofs.Common.{arith, ◌≡◌, ◌++◌, ◌∷◌, [], List, ap, ◌∙◌, replicate, refl, rules}
+use Rattle.certs.specs.declared.level.Level.TheVariants.{Inf}
+use Rattle.bb_core.specs.Coverage.{Slot}
+use Rattle.open_pool.proofs.SoundLaws.{sound-begun}
+use Rattle.open_pool.proofs.pool.Pool.begin.Goals as goal
+
+pub invariant_of-result : goal.invariant_of-result
+invariant_of-result c =
+    let caps : c.in_ok-caps.caps.items ≡ replicate c.count-count.result Inf = search rules in
+    let ends : c.in_ok-ends.ends.items ≡ replicate c.count-count.result Inf = search rules in
+    sound-begun _ c.count-count.result (record {
+      right = c.count-count.ensures.limits;
+      count = c.count-count.ensures.count;
+      slots = c.push_reserved.ensures.items ∙ ap (λ (xs : List Slot). xs ++ c.in_ok-root_slot.field-0 ∷ []) c.in_ok-slots.ensures.items ∙ ap (λ (t : Slot). t ∷ []) c.in_ok-root_slot.ensures;
+      caps = caps;
+      ends = ends;
+      some = c.requires.some;
+      few = c.requires.few;
+      one = omega (arith, c.push_reserved.ensures.len, c.in_ok-slots.ensures.len);
+      room = omega (arith, c.push_reserved.ensures.capacity, c.in_ok-slots.ensures.capacity);
+      spare = c.in_ok-spare.ensures.items;
+      spare_room = omega (arith, c.in_ok-spare.ensures.capacity);
+      scratch = c.in_ok-scratch.ensures;
+      halted = refl;
+    })

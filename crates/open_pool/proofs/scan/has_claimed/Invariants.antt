@@ -1,0 +1,7 @@
+use Rattle.std.proofs.Common.{◌≡◌, ℕ, ◌<◌}
+use Rattle.bb_core.specs.Coverage.{slot_at}
+use Rattle.open_pool.specs.Marks.{claimed}
+use Rattle.open_pool.proofs.scan.has_claimed.Given as goal
+
+abbrev pub invariant-loop-n : goal.invariant-loop-n
+invariant-loop-n l = (m : ℕ) → m < l.n → (slot_at l.slots m).mark ≡ claimed → ⊥

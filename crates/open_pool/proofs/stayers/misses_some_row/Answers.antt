@@ -1,0 +1,12 @@
+use Rattle.std.proofs.Common.{arith, sym, ◌∙◌, ap, length}
+use Rattle.int_model.specs.Models.{IntegerModel}
+use Rattle.scenario_changes.specs.Problems.{problem, program_at}
+use Rattle.certs.proofs.ProblemLemmas.{row_level-true, row_level-false}
+use Rattle.open_pool.proofs.StayerLemmas.{is_missed, not_missed, some_misses, none_misses}
+use Rattle.open_pool.proofs.stayers.misses_some_row.Goals as goal
+
+pub returns-then-misses : goal.returns-then-misses
+returns-then-misses c = some_misses (program_at (problem c.args.problem.now) c.args.s) _ c.loop-i.i _ (omega (arith, ap (λ (m : IntegerModel). length m.rows) c.model-model.ensures)) (is_missed (program_at (problem c.args.problem.now) c.args.s) c.loop-i.i c.args.part.now (row_level-true c.args.problem.now c.args.s c.args.part.now _ _ c.loop-i.i _ _ c.requires.scenario c.model-model.ensures c.ends-ends.ensures.value c.row-row.ensures.value c.as_slice.ensures (sym c.if-misses.true ∙ c.misses.ensures)))
+
+pub loop-i-preserved : goal.loop-i-preserved
+loop-i-preserved c = none_misses (program_at (problem c.args.problem.now) c.args.s) c.loop-i.i _ (not_missed (program_at (problem c.args.problem.now) c.args.s) c.loop-i.i c.args.part.now (row_level-false c.args.problem.now c.args.s c.args.part.now _ _ c.loop-i.i _ _ c.requires.scenario c.model-model.ensures c.ends-ends.ensures.value c.row-row.ensures.value c.as_slice.ensures (sym c.if-misses.false ∙ c.misses.ensures))) c.loop-i.invariant

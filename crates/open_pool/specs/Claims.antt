@@ -1,0 +1,39 @@
+-- What a claim and a settlement answer.
+use Rattle.std.specs.Prelude.{◌≡◌, ◌<◌, ◌≤◌, ◌+◌, false, true, length}
+use Rattle.bb_core.specs.Settlements.{Settlement, Outcome, Close, Branch, place_of}
+use Rattle.bb_core.specs.Coverage.{Open, settled, slot_at, marked_as, MaySettle}
+use Rattle.open_pool.specs.Marks.{claimed}
+use Rattle.open_pool.specs.Pooled.{Pooled, HasNone, IsNext, reopened}
+use Rattle.bb_core.specs.Shared.{work_of}
+use Rattle.open_pool.specs.declared.pool.Claim.{Claim}
+use Rattle.open_pool.specs.declared.pool.Claim.TheVariants.{Node, Wait, Done, Stopped}
+use Rattle.open_pool.specs.declared.pool.Settled.{Settled}
+use Rattle.open_pool.specs.declared.pool.Settled.TheVariants.{Closed, Split, Halted, Stray}
+
+abbrev pub IsClaim : Pooled → Pooled → Claim → Type 0
+IsClaim p q (Node w) = (p.stopped ≡ false) × IsNext p.slots w.node × (place_of (work_of w) ≡ (slot_at p.slots w.node).place) × (q ≡ record p { slots = marked_as p.slots w.node claimed })
+IsClaim p q Wait = (p.stopped ≡ false) × HasNone p.slots Open × (HasNone p.slots claimed → ⊥) × (q ≡ p)
+IsClaim p q Done = (p.stopped ≡ false) × HasNone p.slots Open × HasNone p.slots claimed × (q ≡ p)
+IsClaim p q Stopped = (p.stopped ≡ true) × (q ≡ p)
+
+abbrev pub IsSplit : Outcome → Type 0
+IsSplit Close = ⊥
+IsSplit (Branch stay column v left right left_levels right_levels) = Unit {0}
+
+abbrev pub IsSettled : Pooled → Settlement → Pooled → Settled → Type 0
+IsSettled p s q Stray = (MaySettle p.problem p.slots p.caps claimed s → ⊥) × (q ≡ record p { slots = reopened p.slots s.work.node })
+IsSettled p s q Halted = MaySettle p.problem p.slots p.caps claimed s × IsSplit s.outcome × (p.nodes < length p.slots + 2) × (q ≡ record p { slots = reopened p.slots s.work.node; stopped = true; halted = true })
+IsSettled p s q Closed = MaySettle p.problem p.slots p.caps claimed s × (IsSplit s.outcome → ⊥) × (q ≡ record p { slots = settled p.slots s })
+IsSettled p s q Split = MaySettle p.problem p.slots p.caps claimed s × IsSplit s.outcome × (length p.slots + 2 ≤ p.nodes) × (q ≡ record p { slots = settled p.slots s })
+
+-- the children's lists of levels are short
+abbrev pub AreShort : Outcome → Type 0
+AreShort Close = Unit {0}
+AreShort (Branch stay column v left right left_levels right_levels) = (length left_levels ≤ 64) × (length right_levels ≤ 64)
+
+-- the answer to a settlement that is recorded
+abbrev pub IsAnswer : Outcome → Settled → Type 0
+IsAnswer o Stray = ⊥
+IsAnswer o Halted = ⊥
+IsAnswer o Closed = IsSplit o → ⊥
+IsAnswer o Split = IsSplit o

@@ -1,0 +1,6 @@
+pub mod Marks
+pub mod Pooled
+pub mod Claims
+pub mod PoolParts
+pub mod Judged
+pub mod Ends
