@@ -10,3 +10,6 @@ mod points;
 
 pub use finder::Finder;
 pub use points::BestPoints;
+
+#[cfg(test)]
+mod tests;
