@@ -42,14 +42,14 @@ fn model(alloc: Global) -> Result<Model, Fail> {
     )?)
 }
 
+fn problem(alloc: Global) -> Result<Problem, Fail> {
+    let model = model(alloc)?;
+    let changes = Changes::new(alloc, &model)?;
+    Ok(Problem::new(alloc, model, changes)?)
+}
+
 // Offers a point that has to be feasible.
-fn offer(
-    rt: &impl Abort,
-    problem: &Problem,
-    words: &Words,
-    finder: &mut Finder<'_>,
-    x: &[i32],
-)
+fn offer(rt: &impl Abort, problem: &Problem, words: &Words, finder: &mut Finder<'_>, x: &[i32])
     requires table { finder.old.seat.table ≡ words.now }
     requires problem { finder.old.problem ≡ problem.now }
     requires some { 0 < scenario_count problem.now }
@@ -59,27 +59,68 @@ fn offer(
     finder.offer(words, 0, x);
 }
 
-// Two finders of one problem: the second learns the first one's value from the word and from a note, and
-// the better point is kept when they are merged.
+// Whether the best point is this one.
+fn has_best(finder: &Finder<'_>, x: &[i32], value: i64) -> bool
+    requires { 0 < scenario_count finder.now.problem }
+{
+    match finder.best(0) {
+        Some((point, best)) => point == x && best == value,
+        None => false,
+    }
+}
+
+// Of three offers the point with the least value is kept.
 #[test]
-fn two_finders_share_words(rt: HostRuntime) -> Result<(), Fail> {
-    let model = model(rt.alloc())?;
-    let changes = Changes::new(rt.alloc(), &model)?;
-    let problem = Problem::new(rt.alloc(), model, changes)?;
-    assert!(rt; problem.count() == 1 && problem.model().columns() == 2);
+fn the_best_point_is_kept(rt: HostRuntime) -> Result<(), Fail> {
+    let problem = problem(rt.alloc())?;
+    assert!(rt; problem.count() == 1);
+    assert!(rt; problem.model().columns() == 2);
+    let (words, seat) = Words::make(rt.alloc(), 1)?;
+    let points = BestPoints::make(rt.alloc(), 1, 2)?;
+    let mut finder = Finder::new(&problem, seat, points);
+    offer(&rt, &problem, &words, &mut finder, &[2, 0]);
+    offer(&rt, &problem, &words, &mut finder, &[1, 2]);
+    offer(&rt, &problem, &words, &mut finder, &[0, 3]);
+    assert!(rt; has_best(&finder, &[1, 2], -7));
+    Ok(())
+}
+
+// Makes the second finder learn the first one's value from the word, and puts the two together.
+fn learn_and_merge<'a>(
+    rt: &impl Abort,
+    alloc: Global,
+    words: &Words,
+    first: Finder<'a>,
+    second: &mut Finder<'a>,
+) -> Result<(), AllocError>
+    requires first { first.seat.table ≡ words.now }
+    requires second { second.old.seat.table ≡ words.now }
+    requires problem { first.problem ≡ second.old.problem }
+    requires some { 0 < scenario_count second.old.problem }
+    ensures { second.new.problem ≡ second.old.problem }
+{
+    let learnt = second.look(words, 0);
+    assert!(rt; learnt == Some(-7));
+    let note = second.note(alloc, words)?;
+    second.merge(words, first);
+    second.absorb(words, note);
+    Ok(())
+}
+
+// Two finders of one problem: the second learns the first one's value, and has its point once they are
+// merged.
+#[test]
+fn the_better_point_is_merged(rt: HostRuntime) -> Result<(), Fail> {
+    let problem = problem(rt.alloc())?;
+    assert!(rt; problem.count() == 1);
+    assert!(rt; problem.model().columns() == 2);
     let (words, mut seat) = Words::make(rt.alloc(), 1)?;
     let other_seat = words.member(rt.alloc(), &mut seat)?;
     let mut first = Finder::new(&problem, seat, BestPoints::make(rt.alloc(), 1, 2)?);
     let mut second = Finder::new(&problem, other_seat, BestPoints::make(rt.alloc(), 1, 2)?);
-    assert!(rt; first.best(0).is_none());
     offer(&rt, &problem, &words, &mut first, &[1, 2]);
-    offer(&rt, &problem, &words, &mut first, &[2, 0]);
     offer(&rt, &problem, &words, &mut second, &[0, 3]);
-    assert_eq!(rt; second.look(&words, 0), Some(-7));
-    let note = second.note(rt.alloc(), &words)?;
-    assert_eq!(rt; note.cap(0), Some(-7));
-    second.merge(&words, first);
-    second.absorb(&words, note);
-    assert!(rt; second.best(0) == Some((&[1, 2], -7)));
+    learn_and_merge(&rt, rt.alloc(), &words, first, &mut second)?;
+    assert!(rt; has_best(&second, &[1, 2], -7));
     Ok(())
 }
