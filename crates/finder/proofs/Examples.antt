@@ -1,5 +1,5 @@
 -- Worked examples: which point stands behind an own least offer.
-use Rattle.std.specs.Prelude.{◌≡◌, ℕ, ℤ, pos, negsuc, List, [], ◌∷◌, Some, None, refl}
+use Rattle.std.specs.Prelude.{◌≡◌, ℕ, ℤ, pos, negsuc, List, [], ◌∷◌, true, Some, None, refl}
 use Rattle.std.proofs.Common.{arith, ap}
 use Rattle.std.proofs.lemmas.Int.{ints}
 use Rattle.int_model.specs.Boxes.{box_of}
@@ -26,7 +26,7 @@ best = pos 1 ∷ pos 2 ∷ []
 -- ---- the kept point and its offer
 
 best-own : IsOwn program (code (negsuc 6)) (Some best)
-best-own = (record { within = (tt, tt, tt, tt, tt); rows = ((tt, tt), tt) }, refl)
+best-own = (record { within = (omega (arith, ints), omega (arith, ints), (omega (arith, ints), omega (arith, ints), tt)); rows = ((tt, omega (arith, ints)), tt) }, refl)
 
 -- a code that isn't the value's, none beside a point, and an offer without one
 other-value : IsOwn program (code (negsuc 5)) (Some best) → ⊥
