@@ -1,5 +1,5 @@
 // What no clause says: worked values, and one call of each public function.
-ghost use Rattle.std.specs.Prelude.{◌≡◌, ◌<◌};
+ghost use Rattle.std.specs.Prelude.{◌≡◌, ◌<◌, length, IfOk};
 ghost use Rattle.finder.specs.Found.{scenario_count, IsSameHolder};
 
 use super::*;
@@ -69,20 +69,21 @@ fn has_best(finder: &Finder<'_>, x: &[i32], value: i64) -> bool
     }
 }
 
-// Of three offers the point with the least value is kept.
-#[test]
-fn the_best_point_is_kept(rt: HostRuntime) -> Result<(), Fail> {
-    let problem = problem(rt.alloc())?;
-    assert!(rt; problem.count() == 1);
-    assert!(rt; problem.model().columns() == 2);
-    let (words, seat) = Words::make(rt.alloc(), 1)?;
-    let points = BestPoints::make(rt.alloc(), 1, 2)?;
-    let mut finder = Finder::new(&problem, seat, points);
-    offer(&rt, &problem, &words, &mut finder, &[2, 0]);
-    offer(&rt, &problem, &words, &mut finder, &[1, 2]);
-    offer(&rt, &problem, &words, &mut finder, &[0, 3]);
-    assert!(rt; has_best(&finder, &[1, 2], -7));
-    Ok(())
+// Two finders over the same words, for one scenario and two columns.
+fn two_finders(
+    alloc: Global,
+    problem: &Problem,
+) -> Result<(Words, Finder<'_>, Finder<'_>), AllocError>
+    requires scenarios { scenario_count problem.now ≡ 1 }
+    requires columns { length problem.now.model.columns ≡ 2 }
+    ensures tables { IfOk result (λ r. (r.1.seat.table ≡ r.0) × (r.2.seat.table ≡ r.0)) }
+    ensures problems { IfOk result (λ r. (r.1.problem ≡ problem.now) × (r.2.problem ≡ problem.now)) }
+{
+    let (words, mut seat) = Words::make(alloc, 1)?;
+    let other = words.member(alloc, &mut seat)?;
+    let first = Finder::new(problem, seat, BestPoints::make(alloc, 1, 2)?);
+    let second = Finder::new(problem, other, BestPoints::make(alloc, 1, 2)?);
+    Ok((words, first, second))
 }
 
 // Makes the second finder learn the first one's value from the word, and puts the two together.
@@ -107,20 +108,25 @@ fn learn_and_merge<'a>(
     Ok(())
 }
 
-// Two finders of one problem: the second learns the first one's value, and has its point once they are
-// merged.
+// Whether the second of two finders has the first one's better point once they are merged.
+fn has_the_better(rt: &impl Abort, alloc: Global, problem: &Problem) -> Result<bool, AllocError>
+    requires scenarios { scenario_count problem.now ≡ 1 }
+    requires columns { length problem.now.model.columns ≡ 2 }
+{
+    let (words, mut first, mut second) = two_finders(alloc, problem)?;
+    offer(rt, problem, &words, &mut first, &[1, 2]);
+    offer(rt, problem, &words, &mut first, &[2, 0]);
+    offer(rt, problem, &words, &mut second, &[0, 3]);
+    learn_and_merge(rt, alloc, &words, first, &mut second)?;
+    Ok(has_best(&second, &[1, 2], -7))
+}
+
 #[test]
 fn the_better_point_is_merged(rt: HostRuntime) -> Result<(), Fail> {
     let problem = problem(rt.alloc())?;
     assert!(rt; problem.count() == 1);
     assert!(rt; problem.model().columns() == 2);
-    let (words, mut seat) = Words::make(rt.alloc(), 1)?;
-    let other_seat = words.member(rt.alloc(), &mut seat)?;
-    let mut first = Finder::new(&problem, seat, BestPoints::make(rt.alloc(), 1, 2)?);
-    let mut second = Finder::new(&problem, other_seat, BestPoints::make(rt.alloc(), 1, 2)?);
-    offer(&rt, &problem, &words, &mut first, &[1, 2]);
-    offer(&rt, &problem, &words, &mut second, &[0, 3]);
-    learn_and_merge(&rt, rt.alloc(), &words, first, &mut second)?;
-    assert!(rt; has_best(&second, &[1, 2], -7));
+    let better = has_the_better(&rt, rt.alloc(), &problem)?;
+    assert!(rt; better);
     Ok(())
 }
