@@ -2,7 +2,7 @@
 //! seat of the incumbent words.
 //!
 //! A finder's type keeps that each own least offer is the value of the kept point, and that this point is
-//! feasible. So what prunes another thread's search is always the value of a point that some finder has.
+//! feasible. Through finders nothing but values of feasible points comes into the words.
 #![tactic(auto)]
 
 mod finder;
@@ -10,3 +10,6 @@ mod points;
 
 pub use finder::Finder;
 pub use points::BestPoints;
+
+#[cfg(test)]
+mod tests;

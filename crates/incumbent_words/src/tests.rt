@@ -1,5 +1,8 @@
+ghost use Rattle.std.specs.Prelude.{◌≡◌, ◌≢◌, ◌<◌, ◌≤◌, [], unsigned_abs};
+
 use super::*;
 use std::test::Fail;
+use std::thread;
 
 // The master, a member and a member's note over the words of one scenario.
 #[test]
@@ -30,5 +33,38 @@ fn a_look_sees_a_later_offer(rt: HostRuntime) -> Result<(), Fail> {
     words.join(&mut master, member);
     assert!(rt; master.is_master() && master.width() == 2);
     assert_eq!(rt; words.close(master, 1), Some(4));
+    Ok(())
+}
+
+// Offers the values from a hundred above one down to it.
+fn offer_down(words: &Words, mut seat: WordSeat, value: i64) -> WordSeat
+    requires table { seat.table ≡ words.now }
+    requires words { 0 < words.now.words }
+    requires number { seat.view.numbers ≢ [] }
+    requires value { unsigned_abs value ≤ 1000 }
+    ensures { result.table ≡ words.now }
+{
+    for step in 0..101u32 {
+        words.offer(&mut seat, 0, value + 100 - i64::from(step));
+    }
+    seat
+}
+
+// Two threads offer at once; whatever their order, the master's look answers the least value.
+#[test]
+fn threads_offer_at_once(rt: HostRuntime) -> Result<(), Fail> {
+    let (words, mut master) = Words::make(rt.alloc(), 1)?;
+    let first = words.member(rt.alloc(), &mut master)?;
+    let second = words.member(rt.alloc(), &mut master)?;
+    let (first, second) = thread::join(
+        &rt,
+        || offer_down(&words, first, 7),
+        || offer_down(&words, second, -3),
+    );
+    assert_eq!(rt; first.best(0), Some(7));
+    words.join(&mut master, first);
+    words.join(&mut master, second);
+    assert_eq!(rt; master.best(0), Some(-3));
+    assert_eq!(rt; words.look(&mut master, 0), Some(-3));
     Ok(())
 }
