@@ -1,0 +1,3 @@
+pub mod NearLemmas
+pub mod TermLemmas
+pub mod EntryLemmas
