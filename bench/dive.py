@@ -3,8 +3,9 @@
 usage: dive.py PROGRAM FOLDER [TRIES]
 
 PROGRAM is the built program of the crate dive_rounds. FOLDER has pairs NAME.mps (in the free layout or with fields
-parted by blanks) and NAME.chg. Each scenario is dived into twice: by costs, and near a point that is made here by an
-augmented Lagrangian descent of the linear relaxation. Each point is checked here against the bounds and rows.
+parted by blanks) and NAME.chg. Each scenario is dived into twice: by costs (cost), and near a point that is made here by
+an augmented Lagrangian descent of the linear relaxation (near). Each point is checked here against the bounds and rows.
+As the points of one scenario may do for others, the best of all points for each scenario is rated too (each).
 
 FOLDER/best.txt may have lines NAME VALUE.. with the best value of each scenario in the form that is minimised, `inf`
 where none is feasible and `?` where it isn't known. Where a value isn't known, the better of the two dives takes its
@@ -112,17 +113,40 @@ def near_point(columns, rows):
     return x
 
 
-def value_of(columns, rows, line):
-    """The value of a printed point, which must be feasible, None where there is none."""
-    if line in ("stuck", "empty"):
-        return None
-    point = [int(number) for number in line.split()]
-    assert len(point) == len(columns)
-    assert all(low <= number <= high for number, (_, low, high) in zip(point, columns))
+def point_of(line):
+    """The numbers of a printed point, None where there is none."""
+    return None if line in ("stuck", "empty") else [int(number) for number in line.split()]
+
+
+def is_feasible(columns, rows, point):
+    if len(point) != len(columns) or not all(low <= number <= high for number, (_, low, high) in zip(point, columns)):
+        return False
     for sense, side, terms in rows:
         total = sum(a * point[j] for j, a in terms.items())
-        assert total <= side if sense == "L" else total >= side if sense == "G" else total == side
+        if not (total <= side if sense == "L" else total >= side if sense == "G" else total == side):
+            return False
+    return True
+
+
+def value_at(columns, point):
     return sum(cost * number for number, (cost, _, _) in zip(point, columns))
+
+
+def value_of(columns, rows, line):
+    """The value of a printed point, which must be feasible, None where there is none."""
+    point = point_of(line)
+    assert point is None or is_feasible(columns, rows, point)
+    return None if point is None else value_at(columns, point)
+
+
+def shared(scenarios, lines):
+    """For each scenario the least value of all points of all dives that are feasible for it, None where there is none."""
+    points = [point for line in lines if (point := point_of(line)) is not None]
+    best = []
+    for columns, rows in scenarios:
+        values = [value_at(columns, point) for point in points if is_feasible(columns, rows, point)]
+        best.append(min(values) if values else None)
+    return best
 
 
 def dives(program, model, changes, near, tries):
@@ -154,7 +178,7 @@ def main():
     known = {}
     if os.path.exists(os.path.join(folder, "best.txt")):
         known = {line.split()[0]: line.split()[1:] for line in open(os.path.join(folder, "best.txt"))}
-    totals = {"cost": [0, 0], "near": [0, 0]}
+    totals = {"cost": [0, 0], "near": [0, 0], "each": [0, 0]}
     for name in sorted(name[:-4] for name in os.listdir(folder) if name.endswith(".chg")):
         model, changes = os.path.join(folder, name + ".mps"), os.path.join(folder, name + ".chg")
         parts = read_model(model)
@@ -165,6 +189,8 @@ def main():
             near.flush()
             answers = {"cost": dives(program, model, changes, "-", tries), "near": dives(program, model, changes, near.name, tries)}
         values = {kind: [value_of(*scenario, line) for scenario, line in zip(scenarios, lines)] for kind, (lines, _) in answers.items()}
+        values["each"] = shared(scenarios, answers["cost"][0] + answers["near"][0])
+        answers["each"] = (None, answers["cost"][1] + answers["near"][1])
         best = []
         for s, word in enumerate(known.get(name, ["?"] * len(scenarios))):
             found = [values[kind][s] for kind in values if values[kind][s] is not None]
