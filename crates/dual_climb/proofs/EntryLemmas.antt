@@ -1,6 +1,6 @@
 -- One more entry.
 use Rattle.std.specs.Prelude.{◌≢◌}
-use Rattle.std.proofs.Common.{ℕ, ◌+◌, ◌<◌, ◌≤◌, ◌^◌, ℤ, pos, unsigned_abs, List, [], ◌∷◌, ◌++◌, arith}
+use Rattle.std.proofs.Common.{ℕ, ◌+◌, ◌<◌, ◌≤◌, ◌^◌, pos, unsigned_abs, List, [], ◌∷◌, ◌++◌, arith}
 use Rattle.dual_bounds.specs.Vectors.{Entry, AreEntries, RowsBelow}
 
 pub rows-weaken : (n m : ℕ) (es : List Entry) → n ≤ m → RowsBelow n es → RowsBelow m es

@@ -1,5 +1,5 @@
 -- Near points of small boxes.
-use Rattle.std.specs.Prelude.{ℤ, pos, negsuc, List, [], ◌∷◌}
+use Rattle.std.specs.Prelude.{pos, negsuc, [], ◌∷◌}
 use Rattle.std.proofs.Common.{arith}
 use Rattle.std.proofs.lemmas.Int.{ints}
 use Rattle.int_model.specs.Boxes.{Box}
