@@ -1,8 +1,8 @@
 -- Near points of a box, number by number.
-use Rattle.std.proofs.Common.{◌≡◌, ℕ, suc, ◌+◌, ◌<◌, ◌≤◌, ◌≤ℤ◌, ℤ, pos, false, List, [], ◌∷◌, ◌++◌, length, map, get_or, refl, ap, sym, ◌∙◌, subst, inl, inr, ◌⊎◌, arith}
+use Rattle.std.proofs.Common.{◌≡◌, ℕ, suc, ◌<◌, ◌≤ℤ◌, ℤ, pos, false, List, [], ◌∷◌, length, map, get_or, refl, ap, subst, arith}
 use Rattle.int_model.specs.Boxes.{Interval, Box, InBox, box_of, is_empty}
-use Rattle.int_model.proofs.BoxLaws.{tells-points, places-InBox, map-box_of, length-box_of}
-use Rattle.dual_climb.specs.Climbs.{fixed, IsNear, IsFixedWithin}
+use Rattle.int_model.proofs.BoxLaws.{tells-points, places-InBox, map-box_of}
+use Rattle.dual_climb.specs.Climbs.{IsNear, IsFixedWithin}
 
 sides-back : (b : Box) → box_of (map (λ (i : Interval). i.low) b) (map (λ (i : Interval). i.high) b) ≡ b
 sides-back [] = refl

@@ -1,5 +1,5 @@
 -- The terms of a column, one by one.
-use Rattle.std.proofs.Common.{ℕ, zero, suc, ◌+◌, ◌<◌, ℤ, pos, List, [], ◌∷◌, length, get_or, arith, All}
+use Rattle.std.proofs.Common.{ℕ, zero, suc, ◌+◌, ◌<◌, ℤ, [], ◌∷◌, length, get_or, arith, All}
 use Rattle.int_model.specs.Programs.{Terms, AreTerms}
 use Rattle.dual_climb.specs.Terms.{IsTerm}
 

@@ -1,5 +1,5 @@
 -- Near points of a box, and the sizes of what a climb works on.
-use Rattle.std.specs.Prelude.{◌≡◌, ℕ, ◌^◌, ◌<◌, ◌≤◌, ℤ, pos, ◌*ℤ◌, ◌≤ℤ◌, List, [], ◌∷◌, length, All}
+use Rattle.std.specs.Prelude.{ℕ, ◌^◌, ◌<◌, ◌≤◌, ℤ, pos, ◌*ℤ◌, ◌≤ℤ◌, List, [], ◌∷◌, length, All}
 use Rattle.int_model.specs.Boxes.{Box}
 use Rattle.int_model.specs.declared.model.Ends.{Ends}
 use Rattle.dual_climb.specs.declared.relaxation.Term.{Term}

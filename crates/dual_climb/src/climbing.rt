@@ -26,6 +26,13 @@ const ROUNDS_PER_TOTAL: u32 = 5;
 /// From this round on a climb may end for slowness.
 const FIRST_SLOW_ROUND: u32 = 40;
 
+/// A climb of so many passes is a patient one: its first penalties are smaller, and it doesn't end for slowness.
+/// That costs passes, and brings the bound to that of the linear relaxation.
+const PATIENT_PASSES: u32 = 300;
+
+/// The first penalties of a patient climb are divided by this.
+const PATIENT_DIVISOR: i64 = 8;
+
 /// No total is below this, so a climb with this as enough ends at once; and none is above its negative.
 const MOST_TOTAL: i128 = 1 << 120;
 
@@ -89,6 +96,13 @@ struct Limits {
     enough: i128,
 }
 
+impl Limits {
+    // Whether there are many passes.
+    fn is_patient(&self) -> bool {
+        self.passes >= PATIENT_PASSES
+    }
+}
+
 // The total above which the bound reaches the cut: the bound is the total with the fixed columns' cost, over
 // the scale, rounded up, and the constant. All numbers are below 2^84.
 fn total_enough(relaxation: &Relaxation, scale: u32, constant: i64, cut: Option<i64>) -> i128 {
@@ -130,19 +144,18 @@ fn ascend(
     let start = Start {
         scale,
         fraction,
+        divisor: if limits.is_patient() {
+            PATIENT_DIVISOR
+        } else {
+            1
+        },
         multipliers,
         point,
     };
     let mut state = State::new(alloc, relaxation, &sums, start)?;
     let mut best = Best::new(alloc, total, multipliers, limits.enough, scale)?;
     let mut correction = Correction::new(alloc, relaxation)?;
-    run(
-        relaxation,
-        limits.passes,
-        &mut state,
-        &mut best,
-        &mut correction,
-    );
+    run(relaxation, limits, &mut state, &mut best, &mut correction);
     multipliers.copy_from_slice(best.multipliers());
     point.copy_from_slice(state.point());
     Ok(fraction)
@@ -151,7 +164,7 @@ fn ascend(
 // The rounds of a climb, and a last correction.
 fn run(
     relaxation: &Relaxation,
-    passes: u32,
+    limits: Limits,
     state: &mut State,
     best: &mut Best,
     correction: &mut Correction,
@@ -162,7 +175,7 @@ fn run(
     ensures state { state.new ≡ state.old }
     ensures best { best.new ≡ best.old }
 {
-    rounds(relaxation, passes, state, best, correction);
+    rounds(relaxation, limits, state, best, correction);
     if !best.is_enough() {
         try_correction(relaxation, state, best, correction);
     }
@@ -171,7 +184,7 @@ fn run(
 // The rounds of a climb.
 fn rounds(
     relaxation: &Relaxation,
-    passes: u32,
+    limits: Limits,
     state: &mut State,
     best: &mut Best,
     correction: &mut Correction,
@@ -185,18 +198,19 @@ fn rounds(
 {
     let mut earlier = best.total();
     let mut still = false;
-    for pass in 0..passes {
+    for pass in 0..limits.passes {
         if pass > 0 && pass % ROUNDS_PER_CORRECTION == 0 {
             if try_correction(relaxation, state, best, correction) {
                 state.restart(best.multipliers());
             }
-            if best.is_enough() || (pass >= FIRST_SLOW_ROUND && best.is_slow(earlier)) {
+            let may_be_slow = pass >= FIRST_SLOW_ROUND && !limits.is_patient();
+            if best.is_enough() || (may_be_slow && best.is_slow(earlier)) {
                 return;
             }
             earlier = best.total();
         }
         let moved = state.pass(relaxation);
-        if (pass + 1) % ROUNDS_PER_TOTAL == 0 || pass + 1 == passes || !moved {
+        if (pass + 1) % ROUNDS_PER_TOTAL == 0 || pass + 1 == limits.passes || !moved {
             let total = relaxation.total(state.multipliers());
             best.try_round(total, state.multipliers());
             if best.is_enough() || best.is_idle() {

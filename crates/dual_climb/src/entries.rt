@@ -1,6 +1,7 @@
 // Multipliers of all rows from a vector, and a vector from the multipliers of all rows.
-ghost use Rattle.std.specs.Prelude.{◌≡◌, ◌≤◌, ◌<◌, ◌^◌, length, IfOk};
-ghost use Rattle.dual_bounds.specs.Vectors.{RowsBelow};
+ghost use Rattle.std.specs.Prelude.{◌≡◌, ◌≢◌, ◌≤◌, ◌<◌, ◌^◌, pos, unsigned_abs, length, IfOk};
+ghost use Rattle.dual_bounds.specs.Vectors.{AreEntries, RowsBelow};
+ghost use Rattle.dual_bounds.specs.declared.vector.VectorError.TheVariants.{Memory};
 
 use crate::relaxation::Relaxation;
 use dual_bounds::{Vector, VectorError};
@@ -61,8 +62,16 @@ pub(crate) fn vector_of(
     let entries = entries_of(alloc, multipliers)?;
     match Vector::new(alloc, scale, &entries) {
         Ok(vector) => Ok(vector),
-        Err(_) => Err(AllocError),
+        Err(error) => Err(want_of_memory(error)),
     }
+}
+
+// The error for want of memory, which is the only one here: the entries keep a vector's limits.
+fn want_of_memory(error: VectorError) -> AllocError
+    requires { error ≡ Memory }
+{
+    let _ = error;
+    AllocError
 }
 
 // Makes all but the 128 weightiest multipliers 0.
@@ -100,10 +109,21 @@ fn weight(terms: &[(u32, i64)], multiplier: i64) -> i128 {
     i128::from(multiplier.wrapping_abs()).wrapping_mul(i128::from(greatest))
 }
 
+// The nearest multiplier within a vector's limit.
+fn limited(multiplier: i64) -> i64
+    requires { multiplier ≢ pos 0 }
+    ensures limit { unsigned_abs result ≤ 2 ^ 40 }
+    ensures other { result ≢ pos 0 }
+{
+    multiplier.max(-MOST_MULTIPLIER).min(MOST_MULTIPLIER)
+}
+
 // The rows whose multipliers aren't 0, and these multipliers, brought within a vector's limits.
 fn entries_of(alloc: Global, multipliers: &[i64]) -> Result<Vec<(u32, i64)>, AllocError>
     requires { length multipliers.now ≤ 1000 }
-    ensures { IfOk result (λ entries. RowsBelow (length multipliers.now) entries.items) }
+    ensures rows { IfOk result (λ entries. RowsBelow (length multipliers.now) entries.items) }
+    ensures limits { IfOk result (λ entries. AreEntries 0 entries.items) }
+    ensures few { IfOk result (λ entries. length entries.items ≤ 128) }
 {
     let mut entries = Vec::new(alloc);
     for (row, &multiplier) in multipliers.iter().enumerate() {
@@ -113,8 +133,7 @@ fn entries_of(alloc: Global, multipliers: &[i64]) -> Result<Vec<(u32, i64)>, All
         if entries.len() >= MOST_ENTRIES {
             return Ok(entries);
         }
-        let multiplier = multiplier.max(-MOST_MULTIPLIER).min(MOST_MULTIPLIER);
-        entries.push((row as u32, multiplier))?;
+        entries.push((row as u32, limited(multiplier)))?;
     }
     Ok(entries)
 }

@@ -29,9 +29,9 @@ pub(crate) struct Ratio {
     pub denominator: i128,
 }
 
-/// That ratio for a relaxation. Both parts stay below 2^73: scale times cost is below 2^50, and there are
-/// at most 1,000 columns and rows with widths below 2^21.
-pub(crate) fn base_ratio(relaxation: &Relaxation, scale: u32, rows: i64) -> Ratio {
+/// That ratio for a relaxation and so many rows, divided by a small number. Both parts stay below 2^73:
+/// scale times cost is below 2^50, and there are at most 1,000 columns and rows with widths below 2^21.
+pub(crate) fn base_ratio(relaxation: &Relaxation, scale: u32, rows: i64, divisor: i64) -> Ratio {
     let mut costs: i64 = 0;
     let mut widths: i64 = 0;
     let mut count: i64 = 0;
@@ -47,7 +47,9 @@ pub(crate) fn base_ratio(relaxation: &Relaxation, scale: u32, rows: i64) -> Rati
         .max(count.wrapping_mul(i64::from(scale)));
     Ratio {
         numerator: i128::from(costs).wrapping_mul(i128::from(count)),
-        denominator: i128::from(widths.wrapping_mul(2)).wrapping_mul(i128::from(rows)),
+        denominator: i128::from(widths.wrapping_mul(2)).wrapping_mul(i128::from(rows.wrapping_mul(
+            divisor,
+        ))),
     }
 }
 

@@ -33,6 +33,8 @@ impl Precision {
 pub(crate) struct Start<'a> {
     pub scale: u32,
     pub fraction: u32,
+    /// The first penalties are divided by this.
+    pub divisor: i64,
     pub multipliers: &'a [i64],
     pub point: &'a [i64],
 }
@@ -74,7 +76,7 @@ impl State {
         requires multipliers { length start.multipliers.now ≡ relaxation.now.rows }
         ensures { IfOk result (λ s. s ≡ relaxation.now) }
     {
-        let ratio = base_ratio(relaxation, start.scale, used_rows(sums));
+        let ratio = base_ratio(relaxation, start.scale, used_rows(sums), start.divisor);
         let precision = Precision {
             fraction: start.fraction,
             penalty: penalty_bits(sums, ratio),

@@ -1,5 +1,5 @@
-use Rattle.std.proofs.Common.{◌≡◌, rules}
-use Rattle.int_model.specs.Boxes.{Box, box_of}
+use Rattle.std.proofs.Common.{◌≡◌}
+use Rattle.int_model.specs.Boxes.{box_of}
 use Rattle.dual_climb.proofs.NearLemmas.{sides-same}
 use Rattle.dual_climb.proofs.points.near_point.Goals as goal
 

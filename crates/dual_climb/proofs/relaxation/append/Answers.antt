@@ -1,4 +1,4 @@
-use Rattle.std.proofs.Common.{rules, arith, ℕ, ℤ, pos, get_or}
+use Rattle.std.proofs.Common.{arith, ℕ, ℤ, pos, get_or}
 use Rattle.std.proofs.lemmas.List.Elements.{All-push}
 use Rattle.dual_climb.specs.Climbs.{IsBelow}
 use Rattle.dual_climb.specs.Terms.{IsTerm}

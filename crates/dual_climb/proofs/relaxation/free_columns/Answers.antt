@@ -1,4 +1,4 @@
-use Rattle.std.proofs.Common.{rules, arith, length}
+use Rattle.std.proofs.Common.{arith, length}
 use Rattle.std.proofs.lemmas.List.Elements.{All-push}
 use Rattle.dual_climb.specs.Climbs.{IsSpan}
 use Rattle.dual_climb.proofs.relaxation.free_columns.Goals as goal
