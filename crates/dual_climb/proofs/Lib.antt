@@ -1,0 +1,4 @@
+pub mod NearLemmas
+pub mod TermLemmas
+pub mod EntryLemmas
+pub mod Examples
