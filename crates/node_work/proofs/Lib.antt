@@ -1,0 +1,15 @@
+pub mod LevelLists
+pub mod RaiseLaws
+pub mod SetLemmas
+pub mod StayerLemmas
+pub mod LawfulLaws
+pub mod LiveLists
+pub mod LevelOrder
+pub mod StayLaws
+pub mod SingleLaws
+pub mod RemainingLaws
+pub mod FitLaws
+pub mod ChoiceLaws
+pub mod HullLaws
+pub mod MadeLaws
+pub mod OutcomeLaws

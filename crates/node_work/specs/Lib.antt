@@ -1,0 +1,4 @@
+pub mod Probes
+pub mod Stayers
+pub mod Choices
+pub mod Branches

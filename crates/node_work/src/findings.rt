@@ -1,0 +1,15 @@
+// What a probe tells.
+use branching::Branch;
+use certs::{Cert, Verdicts};
+use int_model::Point;
+
+/// What is found out at a node: a certificate, a verdict for each live scenario in rising order of these,
+/// and feasible points of scenarios.
+#[derive(Drop)]
+pub struct Probe {
+    pub cert: Cert,
+    pub verdicts: Verdicts,
+    pub found: Vec<(u32, Point)>,
+    /// A hint where the node's box is split. It counts for speed alone, and may be any.
+    pub split: Option<Branch>,
+}
