@@ -1,0 +1,4 @@
+pub mod Spaced
+pub mod LogText
+pub mod HasText
+pub mod Logs
