@@ -10,3 +10,4 @@ pub mod SetLemmas
 pub mod StayerLemmas
 pub mod WideLemmas
 pub mod StartLemmas
+pub mod Examples

@@ -39,7 +39,7 @@ pub record IsNext (slots : List Slot) (n : ℕ) : Type 0 where
   pub least : (m : ℕ) (t : Slot) → slice_get slots m ≡ Some t → t.mark ≡ Open → IsTrue (level_le (least_live open_here.slot.place.levels) (least_live t.place.levels))
   pub first : (m : ℕ) (t : Slot) → slice_get slots m ≡ Some t → t.mark ≡ Open → m < n → level_le (least_live t.place.levels) (least_live open_here.slot.place.levels) ≡ false
 
--- the node is open again where it was claimed
+-- whether the node is claimed; it is open again where it was
 abbrev pub is_claimed : List Slot → ℕ → Bool
 is_claimed slots n = is_held_by 0 (slot_at slots n).mark
 

@@ -20,3 +20,6 @@ mod slot;
 mod stayers;
 
 pub use pool::{Claim, Pool, Settled};
+
+#[cfg(test)]
+mod tests;

@@ -44,8 +44,8 @@ pub enum Claim {
     Stopped,
 }
 
-/// What became of a settlement. The last that applies is named first here: what is stray is neither
-/// halted nor recorded.
+/// What became of a settlement: of these answers the first that applies, in the order `Stray`, `Halted`,
+/// and then `Closed` or `Split`.
 #[derive(Clone, Copy, Debug, PartialEq, Eq)]
 pub enum Settled {
     /// The node is closed.
@@ -165,7 +165,7 @@ impl<'p> Pool<'p> {
         }
     }
 
-    /// Opens a claimed node again. False where it isn't claimed.
+    /// Opens a claimed node again. False where it isn't claimed, and then nothing changes.
     pub fn give_back(&mut self, node: u32) -> bool
         ensures was { result ≡ is_claimed self.old.slots node }
         ensures pool { self.new ≡ record self.old { slots = reopened self.old.slots node } }
@@ -181,7 +181,12 @@ impl<'p> Pool<'p> {
         false
     }
 
-    /// Records what a worker made of a claimed node.
+    /// Records what was made of a claimed node, unless it is stray or halts the pool. The settlement is
+    /// judged again, by what it records and not by who made it. It takes no memory: boxes, levels and
+    /// hints of the children are moved.
+    ///
+    /// Its time is that of replaying the steps twice for each live scenario, and of one evaluation of a
+    /// vector.
     #[tactic(auto, using(crate::proofs::SoundLaws::length_reopened))]
     pub fn settle(&mut self, settlement: Settlement) -> Settled
         ensures { IsSettled self.old (settlement_of settlement) self.new result }
@@ -205,7 +210,7 @@ impl<'p> Pool<'p> {
         enter(&mut self.slots, settlement)
     }
 
-    /// Whether two more nodes are too many.
+    // Whether two more nodes are too many.
     fn is_full(&self) -> bool
         ensures yes { result ≡ true → self.now.nodes < length self.now.slots + 2 }
         ensures no { result ≡ false → length self.now.slots + 2 ≤ self.now.nodes }
@@ -213,6 +218,7 @@ impl<'p> Pool<'p> {
         self.slots.len() + 2 > self.nodes as usize
     }
 
+    // Stops the pool for want of places.
     fn halt(&mut self)
         requires { self.old.nodes < length self.old.slots + 2 }
         ensures { self.new ≡ record self.old { stopped = true; halted = true } }
@@ -221,18 +227,22 @@ impl<'p> Pool<'p> {
         self.halted = true;
     }
 
+    /// Stops the pool: no node is claimed from now on.
     pub fn stop(&mut self)
         ensures { self.new ≡ record self.old { stopped = true } }
     {
         self.stopped = true;
     }
 
+    /// Whether the pool is stopped.
     pub fn is_stopped(&self) -> bool
         ensures { result ≡ self.now.stopped }
     {
         self.stopped
     }
 
+    /// Whether a settlement was answered with [`Settled::Halted`]. There are no places for two more nodes
+    /// then.
     pub fn is_halted(&self) -> bool
         ensures mark { result ≡ self.now.halted }
         ensures full { self.now.halted ≡ true → self.now.nodes < length self.now.slots + 2 }
@@ -254,7 +264,7 @@ impl<'p> Pool<'p> {
         count_claimed(self.slots.as_slice())
     }
 
-    /// The least level of a scenario over all its ends.
+    /// The least level of a scenario over all its ends: where its search stopped, or waits.
     pub fn end_level(&self, s: u32) -> Level
         requires { s < length self.now.problem.scenarios }
         ensures { result ≡ bound_of self.now.problem (placed_of self.now.slots) s }
@@ -264,7 +274,7 @@ impl<'p> Pool<'p> {
         lesser(Some(closed), waiting)
     }
 
-    /// The cap of a scenario.
+    /// The cap of a scenario, None where there is none.
     pub fn cap(&self, s: u32) -> Option<i64>
         requires { s < length self.now.problem.scenarios }
         ensures { cap_level result ≡ slice_index_or self.now.caps s Inf }
@@ -275,21 +285,23 @@ impl<'p> Pool<'p> {
         }
     }
 
-    /// No level is above the value of a feasible point of its node's box.
+    /// No feasible point of a scenario in the box of a node has a value below the scenario's level there.
+    /// The call does nothing; its contract says what the type keeps.
     pub fn levels_are_bounds(&self)
         ensures { LevelsAreBounds self.now.problem self.now.slots }
     {
         let _ = &self.stopped;
     }
 
-    /// Every feasible point is no better than the cap, or lies in the box of an open or claimed node.
+    /// Each feasible point of a scenario has at least the scenario's cap as value, or lies in the box of an
+    /// open or claimed node where the scenario is live. The call does nothing.
     pub fn nothing_is_lost(&self)
         ensures { NothingIsLost self.now.problem self.now.slots self.now.caps }
     {
         let _ = &self.stopped;
     }
 
-    /// What the nodes record. Open and claimed ones record nothing.
+    /// The tree of what the nodes record. Open and claimed ones record nothing. It takes no memory.
     pub fn into_tree(self) -> Tree
         ensures { result ≡ nodes_of self.entry.slots }
     {
@@ -312,6 +324,7 @@ impl<'p> Pool<'p> {
         Tree::from_vec(tree)
     }
 
+    /// How many nodes there are, at most as many as were asked for.
     pub fn node_count(&self) -> u32
         ensures count { result ≡ length self.now.slots }
         ensures within { length self.now.slots ≤ self.now.nodes }
@@ -320,6 +333,7 @@ impl<'p> Pool<'p> {
     }
 }
 
+// Whether the node is split.
 fn is_split(outcome: &Outcome) -> bool
     ensures yes { result ≡ true → IsSplit (outcome_of outcome.now) }
     ensures no { result ≡ false → IsSplit (outcome_of outcome.now) → ⊥ }
@@ -330,7 +344,7 @@ fn is_split(outcome: &Outcome) -> bool
     }
 }
 
-/// Whether the settlement is that of a claimed node, lawful, and closes what it may. The raised levels are then in the scratch.
+// Whether the settlement is that of a claimed node, lawful, and closes what it may. The raised levels are then in the scratch.
 #[tactic(auto, using(crate::proofs::LawfulLaws::may_settle, crate::proofs::LawfulLaws::settle_passes))]
 fn is_allowed(
     problem: &Problem,
@@ -370,7 +384,7 @@ fn is_allowed(
     )
 }
 
-/// Records a settlement that was judged, and opens its children.
+// Records a settlement that was judged, and opens its children.
 fn enter(slots: &mut Vec<Slot>, settlement: Settlement) -> Settled
     requires below { settlement.work.node < length slots.old.items }
     requires place { (slot_at slots.old.items settlement.work.node).place ≡ place_of (work_of settlement.work) }
@@ -420,6 +434,7 @@ fn enter(slots: &mut Vec<Slot>, settlement: Settlement) -> Settled
     }
 }
 
+// The scenarios that stay.
 fn stayers(outcome: &Outcome) -> LiveSet
     ensures { result ≡ stay_of outcome.now }
 {

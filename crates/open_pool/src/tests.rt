@@ -1,0 +1,278 @@
+ghost use Rattle.int_model.specs.Limits.{IsBound};
+
+use super::*;
+use bb_core::{Cuts, Outcome, Settlement, Work};
+use certs::{Cert, Level, Levels, Node, Steps, Vectors, Verdict, Verdicts};
+use dual_bounds::Vector;
+use int_model::{ColumnPart, Direction, Model, Name, Parts, PointBox, Rhs, Row, RowSense, Terms};
+use live_sets::LiveSet;
+use scenario_changes::{Changes, Problem};
+use std::alloc::{AllocError, Global};
+use std::process::Abort;
+use std::sync::Arc;
+use std::test::Fail;
+use tighten::{RowEnd, Step};
+
+fn name(alloc: Global, letter: u8) -> Result<Name, AllocError> {
+    let mut bytes = Vec::new(alloc);
+    bytes.push(letter)?;
+    Ok(Name::from_vec(bytes))
+}
+
+fn column(alloc: Global, letter: u8, cost: i64) -> Result<ColumnPart, AllocError> {
+    Ok(ColumnPart {
+        name: name(alloc, letter)?,
+        cost,
+        low: Some(0),
+        high: Some(3),
+        implied: false,
+    })
+}
+
+// min -3x - 2y, x and y in 0..3, 2x + y at most 4.
+fn cap(alloc: Global) -> Result<Parts, AllocError> {
+    let row = Row {
+        name: name(alloc, b'c')?,
+        sense: RowSense::L,
+        rhs: 4,
+        range: None,
+        terms: Terms::from_vec(vec![in alloc; (0, 2), (1, 1)]?),
+    };
+    Ok(Parts {
+        columns: vec![in alloc; column(alloc, b'x', -3)?, column(alloc, b'y', -2)?]?,
+        rows: vec![in alloc; row]?,
+        constant: 0,
+        direction: Direction::Min,
+    })
+}
+
+// Scenario 0 is the base, and in scenario 1 the row's side is 2.
+fn two_scenarios(rt: &impl Abort, alloc: Global) -> Result<Problem, Fail> {
+    let model = Model::build(alloc, cap(alloc)?)?;
+    let mut changes = Changes::new(alloc, &model)?;
+    changes.set_num_scenarios(2)?;
+    changes.select(1)?;
+    changes.set_rhs(0, Some(Rhs::Value(2)))?;
+    assert!(rt; changes.fits(&model));
+    Ok(Problem::new(alloc, model, changes)?)
+}
+
+fn upper(column: u32) -> Step {
+    Step {
+        row: 0,
+        column,
+        side: RowEnd::Upper,
+    }
+}
+
+// Half of a multiplier of -3, after steps at columns 0 and `column`.
+fn cert(alloc: Global, column: u32) -> Result<Cert, Fail> {
+    let mut vectors = Vectors::new(alloc);
+    vectors.push(Vector::new(alloc, 2, &[(0, -3)])?);
+    Ok(Cert {
+        steps: Steps::from_vec(vec![in alloc; upper(0), upper(column)]?),
+        vectors,
+    })
+}
+
+// A number within the bounds.
+fn bounded(number: i64) -> i32
+    ensures { IsBound result }
+{
+    if number < 0 {
+        return 0;
+    }
+    if number > 9 {
+        return 9;
+    }
+    number as i32
+}
+
+// The numbers from low to high in column 0, and all in column 1.
+fn part(alloc: Global, low: i64, high: i64) -> Result<Arc<PointBox>, AllocError> {
+    let lows = [bounded(low), 0];
+    let highs = [bounded(high), 3];
+    Ok(Arc::new(alloc, PointBox::from_ends(alloc, &lows, &highs)?)?)
+}
+
+fn levels(alloc: Global, first: i64, second: i64) -> Result<Arc<Levels>, AllocError> {
+    let levels = vec![in alloc; Level::Value(first), Level::Value(second)]?;
+    Ok(Arc::new(alloc, Levels::from_vec(levels))?)
+}
+
+fn first_scenarios(count: i64) -> LiveSet {
+    if count == 0 {
+        return LiveSet::none();
+    }
+    if count == 1 {
+        return LiveSet::full(1);
+    }
+    LiveSet::full(2)
+}
+
+// A number that is another one in the settlement that is wrong there.
+fn at(wrong: u32, here: u32, other: i64, usual: i64) -> i64 {
+    if wrong == here { other } else { usual }
+}
+
+fn verdicts(alloc: Global, count: i64, last: Verdict) -> Result<Verdicts, AllocError> {
+    let mut verdicts = Vec::new(alloc);
+    for _k in 1..count {
+        verdicts.push(Verdict::Bound(0))?;
+    }
+    verdicts.push(last)?;
+    Ok(Verdicts::from_vec(verdicts))
+}
+
+fn work(
+    node: u32,
+    bounds: Arc<PointBox>,
+    live: LiveSet,
+    levels: Arc<Levels>,
+    alloc: Global,
+) -> Work {
+    Work {
+        node,
+        bounds,
+        live,
+        levels,
+        hint: None,
+        cuts: Cuts::from_vec(Vec::new(alloc)),
+    }
+}
+
+// Scenario 0 goes on at the level -7, and scenario 1 ends at -4. The entry of scenario 1 counts for
+// nothing in the levels of the children.
+fn split(alloc: Global, wrong: u32) -> Result<Outcome, Fail> {
+    Ok(Outcome::Split {
+        stay: first_scenarios(at(wrong, 1, 0, 1)),
+        column: bounded(at(wrong, 2, 2, 0)) as u32,
+        value: bounded(at(wrong, 3, 2, 0)),
+        left: part(alloc, 0, at(wrong, 4, 1, 0))?,
+        right: part(alloc, at(wrong, 5, 2, 1), 2)?,
+        left_levels: levels(alloc, at(wrong, 6, -15, -7), 40)?,
+        right_levels: levels(alloc, at(wrong, 7, -6, -7), -40)?,
+        left_hint: None,
+        right_hint: None,
+    })
+}
+
+// A settlement of the root, right where nothing is wrong.
+fn settlement(alloc: Global, wrong: u32) -> Result<Settlement, Fail> {
+    let bounds = part(alloc, 0, at(wrong, 8, 2, 3))?;
+    let levels = levels(alloc, -15, at(wrong, 9, -14, -15))?;
+    let live = first_scenarios(at(wrong, 10, 1, 2));
+    let last = if wrong == 13 {
+        Verdict::Empty
+    } else {
+        Verdict::Bound(0)
+    };
+    Ok(Settlement {
+        work: work(0, bounds, live, levels, alloc),
+        cert: cert(alloc, bounded(at(wrong, 14, 2, 1)) as u32)?,
+        verdicts: verdicts(alloc, at(wrong, 11, 1, at(wrong, 12, 3, 2)), last)?,
+        outcome: split(alloc, wrong)?,
+    })
+}
+
+// The end of scenario 0 at a child.
+fn closing(alloc: Global, node: u32, low: i64, high: i64) -> Result<Settlement, Fail> {
+    let bounds = part(alloc, low, high)?;
+    let levels = levels(alloc, -7, 0)?;
+    Ok(Settlement {
+        work: work(node, bounds, LiveSet::full(1), levels, alloc),
+        cert: cert(alloc, 1)?,
+        verdicts: verdicts(alloc, 1, Verdict::Bound(0))?,
+        outcome: Outcome::Close,
+    })
+}
+
+// The number of the node that is claimed, None where none is.
+fn next(pool: &mut Pool<'_>) -> Result<Option<u32>, AllocError> {
+    match pool.claim()? {
+        Claim::Node(work) => Ok(Some(work.node)),
+        _ => Ok(None),
+    }
+}
+
+#[test]
+fn unlawful_settlements_are_stray(rt: HostRuntime) -> Result<(), Fail> {
+    let problem = two_scenarios(&rt, rt.alloc())?;
+    assert_eq!(rt; problem.count(), 2);
+    let mut pool = Pool::begin(rt.alloc(), &problem, 9)?;
+    pool.lower(1, -4);
+    let early = pool.settle(settlement(rt.alloc(), 0)?);
+    assert_eq!(rt; early, Settled::Stray);
+    for wrong in 1..15 {
+        assert_eq!(rt; next(&mut pool)?, Some(0));
+        let answer = pool.settle(settlement(rt.alloc(), wrong)?);
+        assert_eq!(rt; answer, Settled::Stray, "at {wrong}");
+    }
+    assert_eq!(rt; next(&mut pool)?, Some(0));
+    let answer = pool.settle(settlement(rt.alloc(), 0)?);
+    assert_eq!(rt; answer, Settled::Split);
+    Ok(())
+}
+
+#[test]
+fn drops_at_the_cap(rt: HostRuntime) -> Result<(), Fail> {
+    let problem = two_scenarios(&rt, rt.alloc())?;
+    assert_eq!(rt; problem.count(), 2);
+    for (cap, wanted) in [(-3, Settled::Stray), (-4, Settled::Split)] {
+        let mut pool = Pool::begin(rt.alloc(), &problem, 3)?;
+        pool.lower(1, cap);
+        pool.lower(1, 8);
+        assert_eq!(rt; pool.cap(1), Some(cap));
+        assert_eq!(rt; next(&mut pool)?, Some(0));
+        let answer = pool.settle(settlement(rt.alloc(), 0)?);
+        assert_eq!(rt; answer, wanted);
+    }
+    Ok(())
+}
+
+#[test]
+fn walks_through_a_tree(rt: HostRuntime) -> Result<(), Fail> {
+    let problem = two_scenarios(&rt, rt.alloc())?;
+    assert_eq!(rt; problem.count(), 2);
+    let mut pool = Pool::begin(rt.alloc(), &problem, 3)?;
+    pool.lower(0, -7);
+    pool.lower(1, -4);
+    assert_eq!(rt; pool.end_level(0), Level::Value(-15));
+    assert_eq!(rt; next(&mut pool)?, Some(0));
+    assert!(rt; matches!(pool.claim()?, Claim::Wait));
+    pool.settle(settlement(rt.alloc(), 0)?);
+    assert_eq!(rt; pool.open_count(), 2);
+    assert_eq!(rt; next(&mut pool)?, Some(1));
+    assert_eq!(rt; next(&mut pool)?, Some(2));
+    assert!(rt; pool.give_back(2));
+    assert!(rt; !pool.give_back(2));
+    assert_eq!(rt; pool.claimed_count(), 1);
+    pool.settle(closing(rt.alloc(), 1, 0, 0)?);
+    assert_eq!(rt; next(&mut pool)?, Some(2));
+    pool.settle(closing(rt.alloc(), 2, 1, 2)?);
+    assert!(rt; matches!(pool.claim()?, Claim::Done));
+    assert_eq!(rt; pool.node_count(), 3);
+    let tree = pool.into_tree();
+    assert!(rt; matches!(tree.get(0), Some(Node::Split { child: 1, .. })));
+    assert!(rt; matches!(tree.get(2), Some(Node::Leaf { .. })));
+    Ok(())
+}
+
+#[test]
+fn halts_where_two_nodes_are_too_many(rt: HostRuntime) -> Result<(), Fail> {
+    let problem = two_scenarios(&rt, rt.alloc())?;
+    assert_eq!(rt; problem.count(), 2);
+    for nodes in 1..4 {
+        let mut pool = Pool::begin(rt.alloc(), &problem, nodes)?;
+        pool.lower(1, -4);
+        assert_eq!(rt; next(&mut pool)?, Some(0));
+        pool.settle(settlement(rt.alloc(), 0)?);
+        let is_halted = nodes < 3;
+        assert_eq!(rt; pool.is_halted(), is_halted);
+        assert_eq!(rt; pool.is_stopped(), is_halted);
+        assert_eq!(rt; matches!(pool.claim()?, Claim::Stopped), is_halted);
+        pool.stop();
+        assert!(rt; matches!(pool.claim()?, Claim::Stopped));
+    }
+    Ok(())
+}
