@@ -11,7 +11,7 @@ use crate::entries::{multipliers_of, vector_of};
 use crate::points::{MOST_BITS, near_point, starting_point};
 use crate::relaxation::Relaxation;
 use crate::state::{Start, State};
-use crate::sums::{fraction_bits, row_sums};
+use crate::sums::{fraction_bits, multiplier_limit, row_sums};
 use dual_bounds::Vector;
 use int_model::{NearPoint, PointBox};
 use scenario_changes::Problem;
@@ -33,7 +33,7 @@ const PATIENT_PASSES: u32 = 300;
 /// The first penalties of a patient climb are divided by this.
 const PATIENT_DIVISOR: i64 = 8;
 
-/// No total is below this, so a climb with this as enough ends at once; and none is above its negative.
+/// No total is above this, so a climb for which this is enough goes on to its end.
 const MOST_TOTAL: i128 = 1 << 120;
 
 /// Good multipliers for scenario s in a box that isn't empty, from a start: at most so many passes over the
@@ -42,7 +42,8 @@ const MOST_TOTAL: i128 = 1 << 120;
 ///
 /// The vector has the scale of the start. Where no column is free, where activities leave too few bits
 /// after the point, or where the start already reaches the cut, there is no pass, and it is the start
-/// without the entries that count for nothing in the scenario.
+/// without the entries that count for nothing in the scenario. Multipliers so large that a reduced cost
+/// might leave its type are lowered first.
 pub fn climb(
     alloc: Global,
     problem: &Problem,
@@ -70,10 +71,15 @@ pub fn climb(
         bounds.lows(),
         bounds.highs(),
     )?;
-    let mut multipliers = multipliers_of(alloc, &relaxation, start)?;
+    let limit = multiplier_limit(&relaxation);
+    let mut multipliers = multipliers_of(alloc, &relaxation, limit, start)?;
     let mut point = starting_point(alloc, &relaxation, &multipliers, near)?;
     let enough = total_enough(&relaxation, start.scale(), problem.constant(), cut);
-    let limits = Limits { passes, enough };
+    let limits = Limits {
+        passes,
+        enough,
+        multiplier: limit,
+    };
     let fraction = ascend(
         alloc,
         &relaxation,
@@ -89,11 +95,12 @@ pub fn climb(
     ))
 }
 
-/// How many passes there may be, and the total that is enough.
+/// How many passes there may be, the total that is enough, and the most that a multiplier may be.
 #[derive(Clone, Copy)]
 struct Limits {
     passes: u32,
     enough: i128,
+    multiplier: i64,
 }
 
 impl Limits {
@@ -119,7 +126,8 @@ fn total_enough(relaxation: &Relaxation, scale: u32, constant: i64, cut: Option<
     }
 }
 
-// Climbs from these multipliers and this point to better ones. Answers the bits after the point's point.
+// Climbs from these multipliers and this point to better ones. Answers how many bits the numbers of the point
+// then have after the point.
 fn ascend(
     alloc: Global,
     relaxation: &Relaxation,
@@ -144,6 +152,7 @@ fn ascend(
     let start = Start {
         scale,
         fraction,
+        limit: limits.multiplier,
         divisor: if limits.is_patient() {
             PATIENT_DIVISOR
         } else {

@@ -14,10 +14,12 @@ const MOST_ENTRIES: usize = 128;
 /// The most that a vector's multiplier may be.
 const MOST_MULTIPLIER: i64 = 1 << 40;
 
-/// The multiplier of each row, 0 where the row hasn't got the end that it is held against.
+/// The multiplier of each row, brought within a limit, and 0 where the row hasn't got the end that it is held
+/// against.
 pub(crate) fn multipliers_of(
     alloc: Global,
     relaxation: &Relaxation,
+    limit: i64,
     vector: &Vector,
 ) -> Result<Vec<i64>, AllocError>
     ensures { IfOk result (λ multipliers. length multipliers.items ≡ relaxation.now.rows) }
@@ -26,7 +28,7 @@ pub(crate) fn multipliers_of(
     for &(row, multiplier) in vector.entries() {
         let i = row as usize;
         if i < multipliers.len() && has_end(relaxation, i, multiplier) {
-            multipliers[i] = multiplier;
+            multipliers[i] = multiplier.max(limit.wrapping_neg()).min(limit);
         }
     }
     Ok(multipliers)

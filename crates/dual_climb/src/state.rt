@@ -9,7 +9,7 @@ use crate::penalties::{
 use crate::points::MOST_BITS;
 use crate::relaxation::{Relaxation, Term};
 use crate::row::Row;
-use crate::sums::{RowSums, multiplier_limit};
+use crate::sums::RowSums;
 use int_model::Ends;
 use std::alloc::{AllocError, Global};
 use std::marker;
@@ -33,6 +33,8 @@ impl Precision {
 pub(crate) struct Start<'a> {
     pub scale: u32,
     pub fraction: u32,
+    /// No multiplier exceeds this in absolute value.
+    pub limit: i64,
     /// The first penalties are divided by this.
     pub divisor: i64,
     pub multipliers: &'a [i64],
@@ -82,8 +84,7 @@ impl State {
             penalty: penalty_bits(sums, ratio),
         };
         let ranges = penalty_ranges(alloc, sums, ratio, precision.penalty)?;
-        let limit = multiplier_limit(relaxation);
-        let mut rows = rows_at(alloc, relaxation, sums, start.fraction, limit)?;
+        let mut rows = rows_at(alloc, relaxation, sums, start.fraction, start.limit)?;
         let point = shortened(alloc, start.point, start.fraction)?;
         add_activities(relaxation, &point, &mut rows);
         let mut state = State {
