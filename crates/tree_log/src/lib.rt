@@ -13,3 +13,6 @@ mod writer;
 
 pub use file::LogFile;
 pub use writer::write_log;
+
+#[cfg(test)]
+mod tests;
