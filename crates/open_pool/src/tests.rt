@@ -1,4 +1,6 @@
+ghost use Rattle.std.specs.Prelude.{◌<◌, ◌≤◌, length};
 ghost use Rattle.int_model.specs.Limits.{IsBound};
+ghost use Rattle.scenario_changes.specs.Problems as problems;
 
 use super::*;
 use bb_core::{Cuts, Outcome, Settlement, Work};
@@ -115,6 +117,10 @@ fn at(wrong: u32, here: u32, other: i64, usual: i64) -> i64 {
     if wrong == here { other } else { usual }
 }
 
+fn column_at(wrong: u32, here: u32, other: u32, usual: u32) -> u32 {
+    if wrong == here { other } else { usual }
+}
+
 fn verdicts(alloc: Global, count: i64, last: Verdict) -> Result<Verdicts, AllocError> {
     let mut verdicts = Vec::new(alloc);
     for _k in 1..count {
@@ -146,7 +152,7 @@ fn work(
 fn split(alloc: Global, wrong: u32) -> Result<Outcome, Fail> {
     Ok(Outcome::Split {
         stay: first_scenarios(at(wrong, 1, 0, 1)),
-        column: bounded(at(wrong, 2, 2, 0)) as u32,
+        column: column_at(wrong, 2, 2, 0),
         value: bounded(at(wrong, 3, 2, 0)),
         left: part(alloc, 0, at(wrong, 4, 1, 0))?,
         right: part(alloc, at(wrong, 5, 2, 1), 2)?,
@@ -157,20 +163,22 @@ fn split(alloc: Global, wrong: u32) -> Result<Outcome, Fail> {
     })
 }
 
+fn last(wrong: u32) -> Verdict {
+    if wrong == 13 {
+        return Verdict::Empty;
+    }
+    Verdict::Bound(0)
+}
+
 // A settlement of the root, right where nothing is wrong.
 fn settlement(alloc: Global, wrong: u32) -> Result<Settlement, Fail> {
     let bounds = part(alloc, 0, at(wrong, 8, 2, 3))?;
     let levels = levels(alloc, -15, at(wrong, 9, -14, -15))?;
     let live = first_scenarios(at(wrong, 10, 1, 2));
-    let last = if wrong == 13 {
-        Verdict::Empty
-    } else {
-        Verdict::Bound(0)
-    };
     Ok(Settlement {
         work: work(0, bounds, live, levels, alloc),
-        cert: cert(alloc, bounded(at(wrong, 14, 2, 1)) as u32)?,
-        verdicts: verdicts(alloc, at(wrong, 11, 1, at(wrong, 12, 3, 2)), last)?,
+        cert: cert(alloc, column_at(wrong, 14, 2, 1))?,
+        verdicts: verdicts(alloc, at(wrong, 11, 1, at(wrong, 12, 3, 2)), last(wrong))?,
         outcome: split(alloc, wrong)?,
     })
 }
@@ -195,66 +203,60 @@ fn next(pool: &mut Pool<'_>) -> Result<Option<u32>, AllocError> {
     }
 }
 
-#[test]
-fn unlawful_settlements_are_stray(rt: HostRuntime) -> Result<(), Fail> {
-    let problem = two_scenarios(&rt, rt.alloc())?;
-    assert_eq!(rt; problem.count(), 2);
-    let mut pool = Pool::begin(rt.alloc(), &problem, 9)?;
-    pool.lower(1, -4);
-    let early = pool.settle(settlement(rt.alloc(), 0)?);
-    assert_eq!(rt; early, Settled::Stray);
-    for wrong in 1..15 {
-        assert_eq!(rt; next(&mut pool)?, Some(0));
-        let answer = pool.settle(settlement(rt.alloc(), wrong)?);
-        assert_eq!(rt; answer, Settled::Stray, "at {wrong}");
-    }
-    assert_eq!(rt; next(&mut pool)?, Some(0));
-    let answer = pool.settle(settlement(rt.alloc(), 0)?);
-    assert_eq!(rt; answer, Settled::Split);
-    Ok(())
-}
-
-#[test]
-fn drops_at_the_cap(rt: HostRuntime) -> Result<(), Fail> {
-    let problem = two_scenarios(&rt, rt.alloc())?;
-    assert_eq!(rt; problem.count(), 2);
-    for (cap, wanted) in [(-3, Settled::Stray), (-4, Settled::Split)] {
-        let mut pool = Pool::begin(rt.alloc(), &problem, 3)?;
-        pool.lower(1, cap);
-        pool.lower(1, 8);
-        assert_eq!(rt; pool.cap(1), Some(cap));
-        assert_eq!(rt; next(&mut pool)?, Some(0));
-        let answer = pool.settle(settlement(rt.alloc(), 0)?);
-        assert_eq!(rt; answer, wanted);
-    }
-    Ok(())
-}
-
-#[test]
-fn walks_through_a_tree(rt: HostRuntime) -> Result<(), Fail> {
-    let problem = two_scenarios(&rt, rt.alloc())?;
-    assert_eq!(rt; problem.count(), 2);
-    let mut pool = Pool::begin(rt.alloc(), &problem, 3)?;
+// A pool with places for so many nodes, and caps for both scenarios.
+fn pool_of(alloc: Global, problem: &Problem, nodes: u32, cap: i64) -> Result<Pool<'_>, AllocError>
+    requires some { 0 < nodes }
+    requires few { nodes ≤ 100001 }
+    requires scenarios { 1 < length (problems.problem problem.now).scenarios }
+{
+    let mut pool = Pool::begin(alloc, problem, nodes)?;
     pool.lower(0, -7);
-    pool.lower(1, -4);
-    assert_eq!(rt; pool.end_level(0), Level::Value(-15));
-    assert_eq!(rt; next(&mut pool)?, Some(0));
-    assert!(rt; matches!(pool.claim()?, Claim::Wait));
-    pool.settle(settlement(rt.alloc(), 0)?);
-    assert_eq!(rt; pool.open_count(), 2);
-    assert_eq!(rt; next(&mut pool)?, Some(1));
-    assert_eq!(rt; next(&mut pool)?, Some(2));
-    assert!(rt; pool.give_back(2));
-    assert!(rt; !pool.give_back(2));
-    assert_eq!(rt; pool.claimed_count(), 1);
-    pool.settle(closing(rt.alloc(), 1, 0, 0)?);
-    assert_eq!(rt; next(&mut pool)?, Some(2));
-    pool.settle(closing(rt.alloc(), 2, 1, 2)?);
-    assert!(rt; matches!(pool.claim()?, Claim::Done));
-    assert_eq!(rt; pool.node_count(), 3);
-    let tree = pool.into_tree();
-    assert!(rt; matches!(tree.get(0), Some(Node::Split { child: 1, .. })));
-    assert!(rt; matches!(tree.get(2), Some(Node::Leaf { .. })));
+    pool.lower(1, cap);
+    Ok(pool)
+}
+
+// Claims the root and settles it.
+fn answer(alloc: Global, pool: &mut Pool<'_>, wrong: u32) -> Result<Settled, Fail> {
+    let settlement = settlement(alloc, wrong)?;
+    next(pool)?;
+    Ok(pool.settle(settlement))
+}
+
+// Claims a node and closes it.
+fn close(alloc: Global, pool: &mut Pool<'_>, low: i64, high: i64) -> Result<Option<u32>, Fail> {
+    let node = next(pool)?;
+    let settlement = closing(alloc, node.unwrap_or(0), low, high)?;
+    pool.settle(settlement);
+    Ok(node)
+}
+
+#[test]
+fn settles_what_is_lawful(rt: HostRuntime) -> Result<(), Fail> {
+    let problem = two_scenarios(&rt, rt.alloc())?;
+    assert_eq!(rt; problem.count(), 2);
+    for (cap, wrong, wanted) in [
+        (-4, 0, Settled::Split),
+        (-3, 0, Settled::Stray),
+        (-4, 1, Settled::Stray),
+        (-4, 2, Settled::Stray),
+        (-4, 3, Settled::Stray),
+        (-4, 4, Settled::Stray),
+        (-4, 5, Settled::Stray),
+        (-4, 6, Settled::Stray),
+        (-4, 7, Settled::Stray),
+        (-4, 8, Settled::Stray),
+        (-4, 9, Settled::Stray),
+        (-4, 10, Settled::Stray),
+        (-4, 11, Settled::Stray),
+        (-4, 12, Settled::Stray),
+        (-4, 13, Settled::Stray),
+        (-4, 14, Settled::Stray),
+    ] {
+        let mut pool = pool_of(rt.alloc(), &problem, 3, cap)?;
+        let found = answer(rt.alloc(), &mut pool, wrong)?;
+        assert_eq!(rt; found, wanted);
+        assert_eq!(rt; pool.claimed_count(), 0);
+    }
     Ok(())
 }
 
@@ -263,16 +265,46 @@ fn halts_where_two_nodes_are_too_many(rt: HostRuntime) -> Result<(), Fail> {
     let problem = two_scenarios(&rt, rt.alloc())?;
     assert_eq!(rt; problem.count(), 2);
     for nodes in 1..4 {
-        let mut pool = Pool::begin(rt.alloc(), &problem, nodes)?;
-        pool.lower(1, -4);
-        assert_eq!(rt; next(&mut pool)?, Some(0));
-        pool.settle(settlement(rt.alloc(), 0)?);
-        let is_halted = nodes < 3;
-        assert_eq!(rt; pool.is_halted(), is_halted);
-        assert_eq!(rt; pool.is_stopped(), is_halted);
-        assert_eq!(rt; matches!(pool.claim()?, Claim::Stopped), is_halted);
-        pool.stop();
-        assert!(rt; matches!(pool.claim()?, Claim::Stopped));
+        let mut pool = pool_of(rt.alloc(), &problem, nodes, -4)?;
+        answer(rt.alloc(), &mut pool, 0)?;
+        assert_eq!(rt; pool.is_halted(), nodes < 3);
+        assert_eq!(rt; pool.is_stopped(), nodes < 3);
     }
+    Ok(())
+}
+
+#[test]
+fn walks_through_a_tree(rt: HostRuntime) -> Result<(), Fail> {
+    let problem = two_scenarios(&rt, rt.alloc())?;
+    assert_eq!(rt; problem.count(), 2);
+    let mut pool = pool_of(rt.alloc(), &problem, 3, -4)?;
+    answer(rt.alloc(), &mut pool, 0)?;
+    assert_eq!(rt; close(rt.alloc(), &mut pool, 0, 0)?, Some(1));
+    assert_eq!(rt; close(rt.alloc(), &mut pool, 1, 2)?, Some(2));
+    assert_eq!(rt; next(&mut pool)?, None);
+    let tree = pool.into_tree();
+    assert_eq!(rt; tree.len(), 3);
+    assert!(rt; matches!(tree.get(0), Some(Node::Split { child: 1, .. })));
+    assert!(rt; matches!(tree.get(2), Some(Node::Leaf { .. })));
+    Ok(())
+}
+
+#[test]
+fn gives_back_and_stops(rt: HostRuntime) -> Result<(), Fail> {
+    let problem = two_scenarios(&rt, rt.alloc())?;
+    assert_eq!(rt; problem.count(), 2);
+    let mut pool = Pool::begin(rt.alloc(), &problem, 9)?;
+    assert_eq!(rt; pool.end_level(0), Level::Value(-15));
+    assert_eq!(rt; pool.cap(0), None);
+    // Node 0 before it is claimed.
+    let early = settlement(rt.alloc(), 0)?;
+    assert_eq!(rt; pool.settle(early), Settled::Stray);
+    assert_eq!(rt; next(&mut pool)?, Some(0));
+    assert!(rt; pool.give_back(0));
+    assert!(rt; !pool.give_back(0));
+    assert_eq!(rt; pool.open_count(), 1);
+    pool.stop();
+    assert_eq!(rt; next(&mut pool)?, None);
+    assert_eq!(rt; pool.node_count(), 1);
     Ok(())
 }
