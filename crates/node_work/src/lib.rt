@@ -5,6 +5,7 @@
 //! `specs/Stayers.antt` which scenarios stay.
 #![tactic(auto)]
 
+mod climbs;
 mod deciding;
 mod findings;
 mod judging;
