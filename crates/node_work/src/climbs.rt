@@ -11,9 +11,11 @@ ghost use Rattle.node_work.specs.Probes.{AreFound};
 ghost use Rattle.node_work.specs.Choices.{IsKept};
 
 use crate::multipliers::{SCALE, without_entries};
+use crate::splits::split_near;
 use crate::stayers::is_stayer;
-use bb_core::Work;
-use certs::{Cert, Level};
+use bb_core::{Hint, Work};
+use branching::Branch;
+use certs::{Cert, Level, Vectors};
 use dive::{Dive, dive_near};
 use dual_bounds::Vector;
 use dual_climb::climb;
@@ -21,19 +23,21 @@ use int_model::{NearPoint, Point, PointBox};
 use live_sets::LiveSet;
 use scenario_changes::Problem;
 use std::alloc::{AllocError, Global};
+use std::sync::Arc;
 
 // The most passes of a climb, at the root and elsewhere.
 const ROOT_PASSES: u32 = 300;
 
 const PASSES: u32 = 160;
 
-/// What was found for one scenario: a vector, the near point where its climb ended, and feasible points of
-/// scenarios.
+/// What was found for one scenario: a vector, feasible points of scenarios, and hints for the work at
+/// the children and for the split.
 #[derive(Drop)]
 pub(crate) struct Candidate {
     pub(crate) vector: Vector,
-    pub(crate) near: Option<NearPoint>,
     pub(crate) found: Vec<(u32, Point)>,
+    pub(crate) hint: Option<Arc<Hint>>,
+    pub(crate) split: Option<Branch>,
 }
 
 // The level of a scenario at a node.
@@ -152,6 +156,19 @@ fn start_of<'a>(work: &'a Work, other: &'a Vector) -> &'a Vector
     }
 }
 
+// The hint of a vector and a near point.
+fn hint_of(alloc: Global, vector: &Vector, near: NearPoint) -> Result<Arc<Hint>, AllocError> {
+    let mut vectors = Vectors::new(alloc);
+    match Vector::new(alloc, vector.scale(), vector.entries()) {
+        Ok(copy) => vectors.push(copy),
+        Err(_) => return Err(AllocError),
+    }
+    match Arc::new(alloc, Hint { vectors, near }) {
+        Ok(hint) => Ok(hint),
+        Err(_) => Err(AllocError),
+    }
+}
+
 // A climb in the replay of a scenario, and a dive near where it ends.
 fn climb_in(
     alloc: Global,
@@ -183,10 +200,13 @@ fn climb_in(
     let cut = cut_at(problem, work, s);
     let (vector, near) = climb(alloc, problem, s, part, start, near, passes, cut)?;
     let found = dive_into(alloc, problem, work.live, s, part, &near)?;
+    let split = split_near(alloc, problem, part, &vector, &near)?;
+    let hint = hint_of(alloc, &vector, near)?;
     Ok(Candidate {
         vector,
-        near: Some(near),
         found,
+        hint: Some(hint),
+        split,
     })
 }
 
@@ -217,7 +237,8 @@ pub(crate) fn climb_least(
     }
     Ok(Candidate {
         vector: without_entries(alloc)?,
-        near: None,
         found: Vec::new(alloc),
+        hint: None,
+        split: None,
     })
 }

@@ -13,6 +13,7 @@ mod levels;
 mod multipliers;
 mod probing;
 mod remaining;
+mod splits;
 mod stayers;
 mod steps;
 mod verdicts;

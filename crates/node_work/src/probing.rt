@@ -36,8 +36,9 @@ pub fn probe(alloc: Global, problem: &Problem, work: &Work) -> Result<Probe, All
     let remaining = Remaining::new(alloc, problem, work.live, &work.bounds, &cert)?;
     let Candidate {
         vector,
-        near: _,
         found,
+        hint,
+        split,
     } = climb_least(alloc, problem, work, &cert, remaining.scenarios)?;
     cert.vectors
         .push(first_vector(alloc, problem, &remaining, vector)?);
@@ -46,6 +47,7 @@ pub fn probe(alloc: Global, problem: &Problem, work: &Work) -> Result<Probe, All
         cert,
         verdicts: judgement.verdicts,
         found: judgement.found,
-        split: None,
+        split,
+        hint,
     })
 }
