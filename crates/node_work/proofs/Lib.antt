@@ -13,3 +13,4 @@ pub mod ChoiceLaws
 pub mod HullLaws
 pub mod MadeLaws
 pub mod OutcomeLaws
+pub mod TotalLaws

@@ -13,8 +13,11 @@ use Rattle.int_model.proofs.BoxLaws.{tells-points}
 use Rattle.int_model.proofs.VolumeLaws.{HasPoints, points-not_empty}
 use Rattle.tighten.specs.Replay.{replay, replayed}
 use Rattle.tighten.specs.declared.step.Step.{Step}
-use Rattle.scenario_changes.specs.Problems.{IsWithin}
-use Rattle.certs.specs.Trees.{some_row_misses}
+use Rattle.scenario_changes.specs.Problems.{Problem, IsWithin}
+use Rattle.certs.specs.Trees.{some_row_misses, stayer_box}
+use Rattle.certs.specs.declared.cert.Cert.{Cert}
+use Rattle.certs.proofs.TreeLaws.{stayer_box-is}
+use Rattle.dive.specs.Dives.{LiesIn}
 use Rattle.certs.proofs.BoxParts.{Inside, PartOf, replay-part}
 use Rattle.node_work.specs.Probes.{lows_of}
 
@@ -142,3 +145,7 @@ single-feasible columns rows s steps box part w n r one none =
       within = Inside-InBox part s.bounds (lows_of part) inside.inside ((tells-points part).some (points-not_empty part inside.points));
       rows = meets_all s.rows s.ends part (w.shape.ends ∙ sym w.shape.rows) one (λ i l. none_misses s rows part none i (omega (arith, l, w.shape.rows)));
     }
+
+-- the replay of a scenario that remains lies in the scenario's bounds
+pub stayer-lies : (columns rows : ℕ) (p : Problem) (box : Box) (cert : Cert) (s : Program) (part : Box) → IsWithin columns rows s → length box ≡ columns → stayer_box p box cert s ≡ Some part → LiesIn part s.bounds
+stayer-lies columns rows p box cert s part w n e = λ x i. Inside-InBox part s.bounds x (replay-bounds columns s cert.steps box part n w.shape.bounds (stayer_box-is p box cert s part e)).inside i

@@ -17,7 +17,7 @@ use crate::Probe;
 use crate::judging::raise;
 use crate::levels::children_levels;
 use crate::stayers::{hull_stayers, rising, stayers};
-use bb_core::{Outcome, Settlement, Work};
+use bb_core::{Hint, Outcome, Settlement, Work};
 use branching::{Branch, choose};
 use certs::{Cert, Level, Levels};
 use int_model::PointBox;
@@ -41,6 +41,13 @@ fn share_levels(alloc: Global, levels: Levels) -> Result<Arc<Levels>, AllocError
     match Arc::new(alloc, levels) {
         Ok(shared) => Ok(shared),
         Err(_) => Err(AllocError),
+    }
+}
+
+fn share_hint(hint: &Option<Arc<Hint>>) -> Result<Option<Arc<Hint>>, AllocError> {
+    match hint {
+        Some(hint) => Ok(Some(Arc::try_clone(hint)?)),
+        None => Ok(None),
     }
 }
 
@@ -113,8 +120,8 @@ fn split(
         right: share_box(alloc, right)?,
         left_levels,
         right_levels,
-        left_hint: None,
-        right_hint: None,
+        left_hint: share_hint(&probe.hint)?,
+        right_hint: share_hint(&probe.hint)?,
     })
 }
 
@@ -187,6 +194,7 @@ pub fn decide(
         verdicts,
         found: _,
         split: _,
+        hint: _,
     } = probe;
     Ok(Settlement {
         work,

@@ -5,6 +5,7 @@
 //! `specs/Stayers.antt` which scenarios stay.
 #![tactic(auto)]
 
+mod climbs;
 mod deciding;
 mod findings;
 mod judging;
@@ -12,6 +13,7 @@ mod levels;
 mod multipliers;
 mod probing;
 mod remaining;
+mod splits;
 mod stayers;
 mod steps;
 mod verdicts;

@@ -6,6 +6,7 @@ ghost use Rattle.bb_core.specs.Shared.{work_of};
 ghost use Rattle.node_work.specs.Probes.{EachLive, IsGoodProbe, IsBestVerdict, HasAscent};
 
 use crate::Probe;
+use crate::climbs::{Candidate, climb_least};
 use crate::multipliers::first_vector;
 use crate::remaining::Remaining;
 use crate::steps::steps_over;
@@ -33,12 +34,20 @@ pub fn probe(alloc: Global, problem: &Problem, work: &Work) -> Result<Probe, All
         vectors: Vectors::new(alloc),
     };
     let remaining = Remaining::new(alloc, problem, work.live, &work.bounds, &cert)?;
-    cert.vectors.push(first_vector(alloc, problem, &remaining)?);
-    let judgement = judge_live(alloc, problem, work.live, &work.bounds, &cert)?;
+    let Candidate {
+        vector,
+        found,
+        hint,
+        split,
+    } = climb_least(alloc, problem, work, &cert, remaining.scenarios)?;
+    cert.vectors
+        .push(first_vector(alloc, problem, &remaining, vector)?);
+    let judgement = judge_live(alloc, problem, work.live, &work.bounds, &cert, found)?;
     Ok(Probe {
         cert,
         verdicts: judgement.verdicts,
         found: judgement.found,
-        split: None,
+        split,
+        hint,
     })
 }

@@ -199,25 +199,28 @@ pub(crate) struct Judgement {
     pub(crate) found: Vec<(u32, Point)>,
 }
 
-/// A verdict for each live scenario: the one with the greatest level that the certificate shows.
+/// A verdict for each live scenario: the one with the greatest level that the certificate shows. Points
+/// are added to those that were found.
 pub(crate) fn judge_live(
     alloc: Global,
     problem: &Problem,
     live: LiveSet,
     bounds: &PointBox,
     cert: &Cert,
+    found: Vec<(u32, Point)>,
 ) -> Result<Judgement, AllocError>
     requires live { All (λ s. s < length (posed problem.now).scenarios) live }
     requires columns { length bounds.now ≡ length problem.now.model.columns }
     requires steps { All (IsStep problem.now.model) cert.now.steps }
     requires vectors { AllRowsBelow (length problem.now.model.rows) cert.now.vectors }
     requires first { HasFirst cert.now.vectors }
+    requires found { AreFound (posed problem.now) found.items }
     ensures good { IfOk result (λ j. EachLive (IsGoodVerdict (posed problem.now) bounds.now cert.now j.found.items) live j.verdicts) }
     ensures best { IfOk result (λ j. EachLive (IsBestVerdict (posed problem.now) bounds.now cert.now) live j.verdicts) }
     ensures found { IfOk result (λ j. AreFound (posed problem.now) j.found.items) }
 {
     let mut verdicts = Vec::new(alloc);
-    let mut found = Vec::new(alloc);
+    let mut found = found;
     let mut part = bounds.copy(alloc)?;
     for s in live.iter() {
         let (choice, is_point) = conclude(problem, s, bounds, cert, &mut part);

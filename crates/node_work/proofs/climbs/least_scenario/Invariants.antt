@@ -1,0 +1,10 @@
+use Rattle.std.proofs.Common.{◌≡◌, ◌++◌, ◌<◌, length}
+use Rattle.std.specs.Prelude.{IfSome}
+use Rattle.scenario_changes.specs.Problems.{problem}
+use Rattle.node_work.proofs.climbs.least_scenario.Given as goal
+
+abbrev pub invariant-loop-s : goal.invariant-loop-s
+invariant-loop-s l = record {
+  whole : l.yielded ++ l.s-iterator ≡ l.fn.scenarios;
+  first : IfSome l.first (λ s. s < length (problem l.problem).scenarios);
+}
