@@ -1,8 +1,12 @@
-// Worked probes and settlements.
-use crate::{decide, probe};
-use bb_core::{Cuts, Outcome, Work};
-use certs::{Level, Levels, start_level};
-use int_model::{ColumnPart, Direction, Model, Name, Parts, Row, RowSense, Terms};
+// Worked probes. `decide` asks for a proof that the cuts are at most the values of the points found, which
+// a test can't give; it is tried where it is called.
+ghost use Rattle.std.specs.Prelude.{◌≡◌, ◌<◌, All, IsTrue};
+
+use crate::{Probe, probe};
+use bb_core::{Cuts, Hint, Work};
+use certs::{Levels, Vectors, Verdict, start_level};
+use dual_bounds::Vector;
+use int_model::{ColumnPart, Direction, Model, Name, NearPoint, Parts, Row, RowSense, Terms};
 use live_sets::LiveSet;
 use scenario_changes::{Changes, Problem};
 use std::alloc::{AllocError, Global};
@@ -51,32 +55,61 @@ fn capacity(rt: &impl Abort, alloc: Global) -> Result<Problem, Fail> {
     Ok(Problem::new(alloc, model, changes)?)
 }
 
-fn root(alloc: Global, problem: &Problem) -> Result<Work, Fail> {
+fn are_below(live: LiveSet, count: u32) -> bool
+    ensures { IsTrue result → All (λ s. s < count) live }
+{
+    live.iter().all(|s| s < count)
+}
+
+// The probe of the root, with these hints.
+fn probed(
+    rt: &impl Abort,
+    alloc: Global,
+    problem: &Problem,
+    hint: Option<Arc<Hint>>,
+    cuts: Cuts,
+) -> Result<Probe, Fail> {
     let mut levels = Vec::new(alloc);
     for s in 0..problem.count() {
         levels.push(start_level(problem, s))?;
     }
-    Ok(Work {
+    let bounds = problem.root(alloc)?;
+    let live = LiveSet::full(2);
+    assert!(rt; bounds.lows().len() == problem.model().columns() as usize);
+    assert!(rt; are_below(live, problem.count()));
+    let work = Work {
         node: 0,
-        bounds: Arc::new(alloc, problem.root(alloc)?)?,
-        live: LiveSet::full(2),
+        bounds: Arc::new(alloc, bounds)?,
+        live,
         levels: Arc::new(alloc, Levels::from_vec(levels))?,
-        hint: None,
-        cuts: Cuts::from_vec(Vec::new(alloc)),
-    })
+        hint,
+        cuts,
+    };
+    Ok(probe(alloc, problem, &work)?)
+}
+
+// A hint that fits no problem of one row and two columns.
+fn misfit(alloc: Global) -> Result<Arc<Hint>, Fail> {
+    let mut vectors = Vectors::new(alloc);
+    vectors.push(Vector::new(alloc, 0, &[(7, 5)])?);
+    let near = NearPoint::from_vec(vec![in alloc; i64::MAX]?);
+    Ok(Arc::new(alloc, Hint { vectors, near })?)
 }
 
 #[test]
-fn root_is_split(rt: HostRuntime) -> Result<(), Fail> {
+fn root_is_bounded(rt: HostRuntime) -> Result<(), Fail> {
     let alloc = rt.alloc();
     let problem = capacity(&rt, alloc)?;
-    let work = root(alloc, &problem)?;
-    let made = probe(alloc, &problem, &work)?;
-    assert_eq!(&rt; made.cert.steps.len(), 1);
-    let settlement = decide(alloc, &problem, work, made, &[None, Some(-10)])?;
-    match settlement.outcome {
-        Outcome::Close => assert!(&rt; false),
-        Outcome::Split { stay, .. } => assert_eq!(&rt; stay.count(), 1),
+    let none = Cuts::from_vec(Vec::new(alloc));
+    let below_all = Cuts::from_vec(vec![in alloc; Some(-1000), Some(-1000)]?);
+    let cases = [(None, none), (Some(misfit(alloc)?), below_all)];
+    for (hint, cuts) in cases {
+        let made = probed(&rt, alloc, &problem, hint, cuts)?;
+        assert_eq!(&rt; made.cert.steps.len(), 1);
+        assert_eq!(&rt; made.cert.vectors.len(), 1);
+        assert_eq!(&rt; made.verdicts.get(0).copied(), Some(Verdict::Bound(0)));
+        assert_eq!(&rt; made.verdicts.get(1).copied(), Some(Verdict::Bound(0)));
+        assert!(&rt; !made.found.is_empty());
     }
     Ok(())
 }
