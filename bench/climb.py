@@ -17,6 +17,7 @@ import sys
 import tempfile
 
 from limits import ROWS, write_model
+from timing import seconds
 
 CLASSES = ["cap", "cov", "mkp", "cut"]
 SEEDS = [1, 2, 3]
@@ -36,13 +37,6 @@ def relaxed(model):
     with open(report, encoding="ascii") as text:
         value = re.search(r"^Objective: .* = (\S+)", text.read(), re.MULTILINE).group(1)
     return math.ceil(float(value) - 1e-6)
-
-
-def seconds(program, model, changes, passes, rounds):
-    run = subprocess.Popen([program, model, changes, str(passes), str(rounds)], stdout=subprocess.DEVNULL)
-    _, status, usage = os.wait4(run.pid, 0)
-    assert status == 0, status
-    return usage.ru_utime + usage.ru_stime
 
 
 def entries(model):

@@ -9,22 +9,15 @@ cuts the box to the scenario's bounds, replays the steps and makes the sum. Prin
 tries in microseconds a round, and how many times that of `replay` and `evaluate` together `judge` takes.
 """
 import os
-import subprocess
 import sys
 import tempfile
 
 from limits import ROWS, write_model
+from timing import seconds
 
 ROUNDS = 1000
 CALLS = ["replay", "evaluate", "judge"]
 END = 900_000_000
-
-
-def seconds(program, model, call, rounds):
-    run = subprocess.Popen([program, model, call, str(rounds)], stdout=subprocess.DEVNULL)
-    _, status, usage = os.wait4(run.pid, 0)
-    assert status == 0, status
-    return usage.ru_utime + usage.ru_stime
 
 
 def main():

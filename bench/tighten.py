@@ -9,22 +9,15 @@ sums (wide), one whose rows don't but narrow nothing (close), and one that many 
 processor time over the tries in microseconds a round, and how many times that of `terms` it is.
 """
 import os
-import subprocess
 import sys
 import tempfile
 
 from limits import ROWS, write_model
+from timing import seconds
 
 ROUNDS = {"terms": 1000, "least": 1000, "replay": 300, "propose": 300}
 ENDS = {"wide": 900_000_000, "close": 4_000_000, "narrow": 20_000}
 CASES = [("terms", "wide"), ("least", "wide"), ("replay", "wide"), ("propose", "wide"), ("propose", "close"), ("propose", "narrow")]
-
-
-def seconds(program, model, call, rounds):
-    run = subprocess.Popen([program, model, call, str(rounds)], stdout=subprocess.DEVNULL)
-    _, status, usage = os.wait4(run.pid, 0)
-    assert status == 0, status
-    return usage.ru_utime + usage.ru_stime
 
 
 def main():
