@@ -1,5 +1,6 @@
 -- What a run of the program does to its desk, by its status.
-use Rattle.std.specs.Prelude.{◌≡◌, ◌⊎◌, ℕ, ◌<◌, ◌≤◌, List, [], ◌∷◌, ◌++◌, length, take, Option, Some, None, IfSome, IsSome, option_map, Ok, Err}
+use Rattle.std.specs.Prelude.{◌≡◌, ◌⊎◌, ℕ, ◌<◌, ◌≤◌, Bool, true, false, List, [], ◌∷◌, ◌++◌, length, take, Option, Some, None, IfSome, IsSome, option_map, Ok, Err}
+use Rattle.std.specs.List.{list_any}
 use Rattle.desk.specs.Causes.{Rose}
 use Rattle.desk.specs.Desk.{View, Files, bytes_of}
 use Rattle.int_model.specs.Models.{IntegerModel}
@@ -8,11 +9,15 @@ use Rattle.mps_reader.specs.declared.MpsKind.{MpsKind}
 use Rattle.scenario_changes.specs.Changes.{Change, ChangeSet}
 use Rattle.scenario_changes.specs.Problems.{Scenarios, problem}
 use Rattle.scenario_changes.specs.declared.answer.Answer.{Answer}
+use Rattle.scenario_changes.specs.declared.answer.Answer.TheVariants.{Infeasible, Optimal, Limit}
+use Rattle.certs.specs.declared.tree.Node.{Node}
+use Rattle.open_pool.specs.Pooled.{begun}
+use Rattle.finder.specs.Found.{Found}
+use Rattle.alone_run.specs.Runs.{IsRun}
 use Rattle.changes_reader.specs.ChangesText.{changes_of}
 use Rattle.changes_reader.specs.declared.ChangesKind.{ChangesKind}
 use Rattle.scen_report.specs.Reports.{report_text}
 use Rattle.scenopt.specs.Messages.{usage, out_of_memory, unwritable, unreadable, too_long, model_line, changes_line}
-use Rattle.scenopt.specs.Searches.{AreRight}
 use Rattle.scenopt.specs.Words.{Inputs, IsSolve, IsNoCommand}
 use Rattle.scenopt.specs.declared.input.Input.{Input}
 use Rattle.scenopt.specs.declared.input.Input.TheVariants.{Model, Changes}
@@ -28,6 +33,7 @@ status_code status.ChangesRefused = 3
 status_code status.ReadFault = 4
 status_code status.WriteFault = 5
 status_code status.Memory = 6
+status_code status.Limit = 7
 
 -- the status where a text is refused
 abbrev pub refused : Input → Status
@@ -83,10 +89,28 @@ pub record HasProblem (files : Option Files) (inputs : Inputs) (p : Scenarios) :
   pub model : HasModel files inputs.model p.model
   pub changes : HasChanges files inputs.changes p.model p.changes
 
--- a report of right answers to all scenarios
-pub record IsAnswered (p : Scenarios) (text : List ℕ) : Type 0 where
+-- the most nodes of a search tree
+abbrev pub most_nodes : ℕ
+most_nodes = 100001
+
+-- whether some answer is a limit: the search ended before it knew more
+abbrev pub is_limit : Answer → Bool
+is_limit Infeasible = false
+is_limit (Optimal x v) = false
+is_limit (Limit best b) = true
+
+-- What a run from the root ends with, in one search tree of at most so many nodes: right answers to all scenarios, each
+-- with what the tree and the best point allow. A limit is among them only where there was no room for two nodes more.
+pub record IsSolved (p : Scenarios) (nodes : ℕ) (answers : List Answer) (tree : List Node) : Type 0 where
+  pub finder : Found
+  pub run : IsRun (problem p) (begun (problem p) nodes) finder answers tree
+
+-- the report of these answers, and whether some of them is a limit
+pub record IsAnswered (p : Scenarios) (nodes : ℕ) (text : List ℕ) (is_limited : Bool) : Type 0 where
   pub answers : List Answer
-  pub right : AreRight (problem p) answers
+  pub tree : List Node
+  pub solved : IsSolved p nodes answers tree
+  pub limits : list_any is_limit answers ≡ is_limited
   pub reported : text ≡ report_text p answers
 
 -- ---- how a run ends
@@ -153,10 +177,11 @@ Stops input file IsWhy names old new result =
     (AddsNames old new names × (Refuses input IsWhy old new result ⊎ Misses input file old new result))
     ⊎ (Lacks old new result × ((n : ℕ) × AddsNames old new (take n names)))
 
--- the report was printed, or there was a fault at that or want of memory
+-- the report was printed, whose answers hold a limit exactly at that status, or there was a fault at that or want of memory
 abbrev pub Reports : Scenarios → View → View → Status → Type 0
-Reports p old new status.Done = (text : List ℕ) × IsAnswered p text × Adds old.printed new.printed text × (new.warned ≡ old.warned)
-Reports p old new status.WriteFault = Rose old.write_faults new.write_faults × ((text : List ℕ) × IsAnswered p text × AddsFront old.printed new.printed text × Tries unwritable old new)
+Reports p old new status.Done = (text : List ℕ) × IsAnswered p most_nodes text false × Adds old.printed new.printed text × (new.warned ≡ old.warned)
+Reports p old new status.Limit = (text : List ℕ) × IsAnswered p most_nodes text true × Adds old.printed new.printed text × (new.warned ≡ old.warned)
+Reports p old new status.WriteFault = Rose old.write_faults new.write_faults × ((text : List ℕ) × (is_limited : Bool) × IsAnswered p most_nodes text is_limited × AddsFront old.printed new.printed text × Tries unwritable old new)
 Reports p old new status.Memory = (new.printed ≡ old.printed) × Tries out_of_memory old new
 Reports p old new status.Usage = ⊥
 Reports p old new status.ModelRefused = ⊥

@@ -1,13 +1,11 @@
 //! Solves bounded pure integer models from MPS files.
 #![tactic(auto)]
 
-#[cfg(test)]
-mod enumerated;
 mod host_desk;
 mod input;
 mod message;
 mod run;
-mod search;
+mod solving;
 #[cfg(test)]
 mod tests;
 mod words;

@@ -2,13 +2,13 @@
 ghost use Rattle.std.specs.Prelude.{◌≡◌, ◌∷◌, [], map, string_bytes, option_map, Some, IfOk, IfErr, MatchResult};
 ghost use Rattle.scenario_changes.specs.Changes.{Fits};
 ghost use Rattle.scenopt.specs.Messages.{too_long};
-ghost use Rattle.scenopt.specs.Runs.{Runs, Solves, StopsAtInput, Reports, Stops, HasBytes, HasModel, HasChanges, HasProblem, IsAnswered, IsTooLong, IsModelRefusal, IsChangesRefusal, names_of, names_to, Stays, Fetches, Tells, Lacks, Tries, OnlyWarns, status_code};
+ghost use Rattle.scenopt.specs.Runs.{Runs, Solves, StopsAtInput, Reports, Stops, HasBytes, HasModel, HasChanges, HasProblem, IsAnswered, most_nodes, IsTooLong, IsModelRefusal, IsChangesRefusal, names_of, names_to, Stays, Fetches, Tells, Lacks, Tries, OnlyWarns, status_code};
 ghost use Rattle.scenopt.specs.declared.input.Input.TheVariants as input;
 ghost use Rattle.scenopt.specs.Runs as spec;
 
 use crate::input::Input;
 use crate::message::{changes_message, model_message};
-use crate::search::answers_of;
+use crate::solving::{MAX_NODES, has_limit, solved};
 use crate::words::{Command, read_words};
 use changes_reader::{ChangesError, read_changes};
 use desk::{Desk, DeskError, FetchError};
@@ -35,6 +35,8 @@ pub enum Status {
     WriteFault,
     /// No memory was left.
     Memory,
+    /// All was done and printed, but some answers are limits: bounds, and the best points that were found.
+    Limit,
 }
 
 impl Status {
@@ -50,6 +52,7 @@ impl Status {
             Status::ReadFault => 4,
             Status::WriteFault => 5,
             Status::Memory => 6,
+            Status::Limit => 7,
         }
     }
 }
@@ -179,12 +182,23 @@ fn problem_in<D: Desk>(
     }
 }
 
-// The report of the right answers to all scenarios.
-fn report_of(alloc: Global, problem: &Problem) -> Result<Vec<u8>, AllocError>
-    ensures { IfOk result (λ text. IsAnswered problem.now text.items) }
+// A report, and whether some answer in it is a limit.
+#[derive(Drop)]
+struct Report {
+    text: Vec<u8>,
+    is_limited: bool,
+}
+
+// The report of the answers to all scenarios.
+fn report_of(alloc: Global, problem: &Problem) -> Result<Report, AllocError>
+    ensures { IfOk result (λ r. IsAnswered problem.now most_nodes r.text.items r.is_limited) }
 {
-    let answers = answers_of(alloc, problem)?;
-    write_report(alloc, problem, &answers)
+    let answers = solved(alloc, problem, MAX_NODES)?.answers;
+    let text = write_report(alloc, problem, &answers)?;
+    Ok(Report {
+        text,
+        is_limited: has_limit(&answers),
+    })
 }
 
 // Prints the report of a problem.
@@ -197,7 +211,8 @@ fn print_report<D: Desk>(alloc: Global, problem: &Problem, desk: &mut D) -> Stat
     let Ok(report) = report_of(alloc, problem) else {
         return lacking(desk);
     };
-    match desk.print(&report) {
+    match desk.print(&report.text) {
+        Ok(()) if report.is_limited => Status::Limit,
         Ok(()) => Status::Done,
         Err(DeskError::Failed) => tried(desk, b"cannot write output\n", Status::WriteFault),
         Err(DeskError::Memory) => lacking(desk),

@@ -1,7 +1,7 @@
 use Rattle.std.proofs.Common.{rules, below_more}
-use Rattle.scenopt.specs.Searches.{program_over}
-use Rattle.scenopt.proofs.SearchLemmas.{missed_none, row_verdict, scenario_shape}
-use Rattle.scenopt.proofs.search.some_row_misses.Goals as goal
+use Rattle.plain_search.specs.Searches.{program_over}
+use Rattle.plain_search.proofs.SearchLemmas.{missed_none, row_verdict, scenario_shape}
+use Rattle.plain_search.proofs.search.some_row_misses.Goals as goal
 
 pub returns-then-misses : goal.returns-then-misses
 returns-then-misses c = record {

@@ -1,9 +1,9 @@
 use Rattle.std.proofs.Common.{◌≡◌, ◌∙◌, arith, FitsSigned, w64}
 use Rattle.std.proofs.lemmas.Int.{ints, to_z-of_z}
 use Rattle.scenario_changes.specs.Problems.{problem, program_at}
-use Rattle.scenopt.specs.Searches.{program_over}
-use Rattle.scenopt.proofs.SearchLemmas.{scenario_root, root_length, answered, answered_none, kept_fits}
-use Rattle.scenopt.proofs.search.answer_of.Goals as goal
+use Rattle.plain_search.specs.Searches.{program_over}
+use Rattle.plain_search.proofs.SearchLemmas.{scenario_root, root_length, answered, answered_none, kept_fits}
+use Rattle.plain_search.proofs.search.answer_of.Goals as goal
 
 pub search-requires-clause-columns : goal.search-requires-clause-columns
 search-requires-clause-columns c =

@@ -1,4 +1,4 @@
-// The plain search: a list of open boxes, each closed or cut in two. It is the reference that is never tuned.
+// A list of open boxes, each closed or cut in two.
 ghost use Rattle.std.specs.Prelude.{◌≡◌, ◌≤◌, ◌<◌, ◌<ℤ◌, ◌≤ℤ◌, [], length, All, IfOk, OnOk, MatchBool, MatchOption, true, false};
 ghost use Rattle.int_model.specs.Limits.{IsBound};
 ghost use Rattle.int_model.specs.Boxes.{interval_at, is_empty, is_single};
@@ -7,7 +7,7 @@ ghost use Rattle.scen_report.specs.Reports.{Fits};
 ghost use Rattle.scenario_changes.specs.Answers.{RightAnswer};
 ghost use Rattle.scenario_changes.specs.Problems.{program_at};
 ghost use Rattle.scenario_changes.specs.Problems as problems;
-ghost use Rattle.scenopt.specs.Searches.{program_over, AreRight, HasNone, MissesNone, Keeps, HasHalves, Visits, Covers};
+ghost use Rattle.plain_search.specs.Searches.{program_over, AreRight, HasNone, MissesNone, Keeps, HasHalves, Visits, Covers};
 
 use activity::misses;
 use int_model::{Point, PointBox};
@@ -156,8 +156,8 @@ fn search(
     Ok(best)
 }
 
-/// The right answer to a scenario.
-pub(crate) fn answer_of(alloc: Global, problem: &Problem, s: u32) -> Result<Answer, AllocError>
+/// The right answer to a scenario, infeasible or optimal. Its time may be that of trying all points.
+pub fn answer_of(alloc: Global, problem: &Problem, s: u32) -> Result<Answer, AllocError>
     requires { s < length (problems.problem problem.now).scenarios }
     ensures right { IfOk result (RightAnswer (program_at (problems.problem problem.now) s)) }
     ensures fits { IfOk result (Fits (length problem.now.model.columns)) }
@@ -173,7 +173,7 @@ pub(crate) fn answer_of(alloc: Global, problem: &Problem, s: u32) -> Result<Answ
 }
 
 /// The right answer to each scenario.
-pub(crate) fn answers_of(alloc: Global, problem: &Problem) -> Result<Answers, AllocError>
+pub fn answers_of(alloc: Global, problem: &Problem) -> Result<Answers, AllocError>
     ensures right { IfOk result (AreRight (problems.problem problem.now)) }
     ensures fits { IfOk result (All (Fits (length problem.now.model.columns))) }
 {

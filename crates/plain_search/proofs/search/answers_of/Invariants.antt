@@ -3,8 +3,8 @@ use Rattle.std.specs.List.{All}
 use Rattle.scen_report.specs.Reports.{Fits}
 use Rattle.scenario_changes.specs.Answers.{RightAnswer}
 use Rattle.scenario_changes.specs.Problems.{problem, program_at}
-use Rattle.scenopt.specs.Searches.{answer_at}
-use Rattle.scenopt.proofs.search.answers_of.Given as goal
+use Rattle.plain_search.specs.Searches.{answer_at}
+use Rattle.plain_search.proofs.search.answers_of.Given as goal
 
 abbrev pub invariant-loop-s : goal.invariant-loop-s
 invariant-loop-s l = record {

@@ -6,9 +6,9 @@ use Rattle.std.proofs.Math.ListN.{length-append}
 use Rattle.scen_report.specs.Reports.{Fits}
 use Rattle.scenario_changes.specs.Problems.{problem}
 use Rattle.scenario_changes.specs.declared.answer.Answer.{Answer}
-use Rattle.scenopt.specs.Searches.{AreRight}
-use Rattle.scenopt.proofs.SearchLemmas.{right_more}
-use Rattle.scenopt.proofs.search.answers_of.Goals as goal
+use Rattle.plain_search.specs.Searches.{AreRight}
+use Rattle.plain_search.proofs.SearchLemmas.{right_more}
+use Rattle.plain_search.proofs.search.answers_of.Goals as goal
 
 pub loop-s-init : goal.loop-s-init
 loop-s-init c = record {

@@ -8,7 +8,7 @@ use Rattle.scenario_changes.specs.Answers.{HasValue, RightAnswer}
 use Rattle.scenario_changes.specs.Problems.{Problem, Scenarios, problem, program_at}
 use Rattle.scenario_changes.specs.declared.answer.Answer.{Answer}
 use Rattle.scenario_changes.specs.declared.answer.Answer.TheVariants.{Infeasible}
-use Rattle.scenopt.specs.declared.search.Best.{Best}
+use Rattle.plain_search.specs.declared.search.Best.{Best}
 
 -- a scenario's program over a box in place of its bounds
 abbrev pub program_over : Scenarios → ℕ → Box → Program

@@ -2,10 +2,10 @@ use Rattle.std.proofs.Common.{◌≡◌, ◌∙◌, sym, ap, subst, arith, rules
 use Rattle.std.proofs.lemmas.Int.{ints, to_z-of_z}
 use Rattle.std.specs.declared.alloc.Global.{Global}
 use Rattle.int_model.specs.Boxes.{Box, Interval}
-use Rattle.scenopt.specs.Searches.{Covers, program_over}
-use Rattle.scenopt.proofs.SearchLemmas.{covers_more, covers_empty, covers_root, kept_fits}
-use Rattle.scenopt.proofs.search.search.Goals as goal
-use Rattle.scenopt.proofs.search.search.Goals.{then-not-is_empty+in_ok-push, else-not-is_empty}
+use Rattle.plain_search.specs.Searches.{Covers, program_over}
+use Rattle.plain_search.proofs.SearchLemmas.{covers_more, covers_empty, covers_root, kept_fits}
+use Rattle.plain_search.proofs.search.search.Goals as goal
+use Rattle.plain_search.proofs.search.search.Goals.{then-not-is_empty+in_ok-push, else-not-is_empty}
 
 pub loop-bounds-init : goal.loop-bounds-init
 loop-bounds-init c =

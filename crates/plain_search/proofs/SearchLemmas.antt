@@ -22,14 +22,14 @@ use Rattle.std.proofs.lemmas.Option.{get_or_from_slice_get, slice_get_within}
 use Rattle.int_model.proofs.BoxLaws.{splits, tells-points, length-InBox}
 use Rattle.int_model.proofs.VolumeLaws.{volume-pos, not_empty-points}
 use Rattle.int_model.proofs.RowSumLaws.{row_misses-none}
-use Rattle.scenopt.specs.declared.search.Best.{Best}
+use Rattle.plain_search.specs.declared.search.Best.{Best}
 use Rattle.scen_report.specs.Reports.{IsValue}
 use Rattle.scenario_changes.specs.Changes.{no_change}
 use Rattle.scenario_changes.specs.Answers.{HasValue, RightAnswer}
 use Rattle.scenario_changes.specs.Problems.{Problem, Scenarios, problem, program_at, scenario_of, solved}
 use Rattle.scenario_changes.specs.declared.answer.Answer.{Answer}
 use Rattle.scenario_changes.specs.declared.answer.Answer.TheVariants.{Infeasible, Optimal}
-use Rattle.scenopt.specs.Searches.{program_over, answer_at, HasNone, MissesNone, HasHalves, IsKept, IsAtMost, KeepsPoint, Keeps, InSome, IsPart, weight, total_weight, Covers, Visits}
+use Rattle.plain_search.specs.Searches.{program_over, answer_at, HasNone, MissesNone, HasHalves, IsKept, IsAtMost, KeepsPoint, Keeps, InSome, IsPart, weight, total_weight, Covers, Visits}
 
 -- ---- boxes and their sides
 

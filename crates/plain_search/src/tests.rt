@@ -1,5 +1,5 @@
 // Small problems, whose answers are compared with those that trying all points of the box gives.
-use crate::search::answer_of;
+use crate::answer_of;
 use int_model::{ColumnPart, Direction, Model, Name, Parts, Row, RowSense, Terms};
 use scenario_changes::{Answer, Changes, Problem};
 use std::alloc::{AllocError, Global};

@@ -2,9 +2,9 @@ use Rattle.std.proofs.Common.{◌≡◌, ◌∙◌, sym, subst, length, List, �
 use Rattle.std.proofs.lemmas.List.{length-map}
 use Rattle.int_model.specs.Programs.{value}
 use Rattle.int_model.specs.declared.model.Row.{Row}
-use Rattle.scenopt.specs.Searches.{program_over, Keeps}
-use Rattle.scenopt.proofs.SearchLemmas.{single_feasible, visit_missed, visit_single, visit_halves}
-use Rattle.scenopt.proofs.search.visit.Goals as goal
+use Rattle.plain_search.specs.Searches.{program_over, Keeps}
+use Rattle.plain_search.proofs.SearchLemmas.{single_feasible, visit_missed, visit_single, visit_halves}
+use Rattle.plain_search.proofs.search.visit.Goals as goal
 
 pub returns-then-some_row_misses : goal.returns-then-some_row_misses
 returns-then-some_row_misses c = visit_missed (program_over c.args.problem.now c.args.s c.args.bounds.now) _ _ c.requires.occupied c.if-some_row_misses.ensures.verdict

@@ -1,0 +1,56 @@
+// The answers of a search by one worker, from the root.
+ghost use Rattle.std.specs.Prelude.{◌≡◌, ◌<◌, ◌≤◌, length, All, IfOk};
+ghost use Rattle.std.specs.List.{list_any};
+ghost use Rattle.scenario_changes.specs.Problems as problems;
+ghost use Rattle.scen_report.specs.Reports.{Fits};
+ghost use Rattle.scenopt.specs.Runs.{IsSolved};
+ghost use Rattle.scenopt.specs.Runs as spec;
+
+use alone_run::{Ended, run_alone};
+use finder::{BestPoints, Finder};
+use incumbent_words::Words;
+use open_pool::Pool;
+use scenario_changes::{Answer, Answers, Problem};
+use std::alloc::{AllocError, Global};
+
+/// The most nodes that a search tree may have.
+pub(crate) const MAX_NODES: u32 = 100_001;
+
+/// What a search of at most so many nodes ends with.
+pub(crate) fn solved(alloc: Global, problem: &Problem, nodes: u32) -> Result<Ended, AllocError>
+    requires some { 0 < nodes }
+    requires few { nodes ≤ 100001 }
+    ensures solved { IfOk result (λ e. IsSolved problem.now nodes e.answers e.tree) }
+    ensures count { IfOk result (λ e. length e.answers ≡ length (problems.problem problem.now).scenarios) }
+    ensures fits { IfOk result (λ e. All (Fits (length problem.now.model.columns)) e.answers) }
+{
+    let count = problem.count();
+    let (words, seat) = Words::make(alloc, count)?;
+    let points = BestPoints::make(alloc, count, problem.model().columns())?;
+    let finder = Finder::new(problem, seat, points);
+    let pool = Pool::begin(alloc, problem, nodes)?;
+    run_alone(alloc, problem, pool, &words, finder)
+}
+
+// Whether an answer is a limit.
+fn is_limit(answer: &Answer) -> bool
+    ensures { result ≡ spec.is_limit answer.now }
+{
+    match answer {
+        Answer::Infeasible => false,
+        Answer::Optimal { .. } => false,
+        Answer::Limit { .. } => true,
+    }
+}
+
+/// Whether some answer is a limit.
+pub(crate) fn has_limit(answers: &Answers) -> bool
+    ensures { result ≡ list_any spec.is_limit answers.now }
+{
+    for answer in answers.as_slice() {
+        if is_limit(answer) {
+            return true;
+        }
+    }
+    false
+}
