@@ -9,9 +9,9 @@ use Rattle.scenario_changes.specs.Problems.{Problem, root_box}
 use Rattle.certs.specs.Verdicts.{start_level}
 use Rattle.certs.specs.declared.level.Level.{Level}
 use Rattle.live_sets.proofs.RisingLists.{in_range-from}
-use Rattle.bb_core.specs.Settlements.{of_live}
+use Rattle.certs.specs.Trees.{of_live}
 use Rattle.bb_core.specs.Coverage.{open_at, root_slot}
-use Rattle.open_pool.proofs.SetLemmas.{in_any}
+use Rattle.certs.proofs.SetLemmas.{in_any}
 
 -- a list made item by item
 map_suc : {X Y : Type 0} (f : X → Y) (xs : List X) (k : ℕ) (d : X) → k < length xs → map f (take k xs) ++ f (slice_index_or xs k d) ∷ [] ≡ map f (take (suc k) xs)

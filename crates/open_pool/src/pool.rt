@@ -5,7 +5,7 @@ ghost use Rattle.scenario_changes.specs.Problems as problems;
 ghost use Rattle.certs.specs.Verdicts as verdicts;
 ghost use Rattle.certs.specs.Claims.{bound_of};
 ghost use Rattle.certs.specs.Trees.{dropped};
-ghost use Rattle.certs.specs.Levels.{cap_level, lesser_level};
+ghost use Rattle.certs.specs.Levels.{cap_level, lesser_level, LevelFits};
 ghost use Rattle.certs.specs.declared.level.Level.TheVariants.{Value, Inf};
 ghost use Rattle.bb_core.specs.Settlements.{place_of};
 ghost use Rattle.bb_core.specs.Coverage as coverage;
@@ -264,10 +264,12 @@ impl<'p> Pool<'p> {
         count_claimed(self.slots.as_slice())
     }
 
-    /// The least level of a scenario over all its ends: where its search stopped, or waits.
+    /// The least level of a scenario over all its ends: where its search stopped, or waits. It is `Inf` or
+    /// within ±2^60.
     pub fn end_level(&self, s: u32) -> Level
         requires { s < length self.now.problem.scenarios }
-        ensures { result ≡ bound_of self.now.problem (placed_of self.now.slots) s }
+        ensures value { result ≡ bound_of self.now.problem (placed_of self.now.slots) s }
+        ensures limit { LevelFits result }
     {
         let closed = level_at(self.ends.as_slice(), s);
         let waiting = waiting_least(self.slots.as_slice(), s);
