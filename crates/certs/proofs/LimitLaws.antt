@@ -1,6 +1,5 @@
 -- The levels of a tree are Inf or within the limit of values.
 use Rattle.std.specs.Prelude.{◌≡◌, ℕ, zero, suc, ◌+◌, ◌^◌, ◌<◌, ◌≤◌, ℤ, pos, ◌+ℤ◌, ◌≤ℤ◌, unsigned_abs, List, [], ◌∷◌, length, take, slice_get, slice_set, slice_index_or, filter_map, Bool, true, false, ◌&&◌, cond, int_lt, nat_eq, nat_lt, Option, Some, None, option_map, unwrap_or, map, refl}
-use Rattle.std.specs.Int.{int_max, int_min}
 use Rattle.std.specs.List.{list_any}
 use Rattle.std.proofs.Common.{arith, ap, sym, ◌∙◌, subst, inl, inr}
 use Rattle.std.proofs.lemmas.Int.{ints, clamps}
@@ -16,7 +15,7 @@ use Rattle.tighten.specs.declared.step.Step.{Step}
 use Rattle.dual_bounds.specs.Vectors.{Multipliers, program_sum, program_bound, within_range}
 use Rattle.scenario_changes.specs.Problems.{Problem, IsWithin, root_box}
 use Rattle.certs.specs.Levels.{LevelFits, level_le, greater_level, lesser_level, least_level}
-use Rattle.certs.specs.Verdicts.{empty_level, level_over, level_on, judged, start_level, plain_level}
+use Rattle.certs.specs.Verdicts.{empty_level, level_over, level_on, judged, start_level}
 use Rattle.certs.specs.Trees.{Place, root_place, raised, dropped, kept, two_places, children, handed_on, handed, is_valid, IsTree, end_levels}
 use Rattle.certs.specs.Claims.{bound_of}
 use Rattle.certs.specs.declared.cert.Cert.{Cert}

@@ -47,7 +47,9 @@ pub fn raise(
             None => out.push_reserved(None),
             Some(level) => match rest.split_first() {
                 None => return false,
-                Some((verdict, others)) => match judge(problem, k, bounds, cert, *verdict, scratch) {
+                Some((verdict, others)) => match judge(
+                    problem, k, bounds, cert, *verdict, scratch,
+                ) {
                     None => return false,
                     Some(more) => {
                         out.push_reserved(Some(level.greater_level(more)));

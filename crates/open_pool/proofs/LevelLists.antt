@@ -1,5 +1,5 @@
 -- Lists of levels, place by place.
-use Rattle.std.specs.Prelude.{◌≡◌, ℕ, zero, suc, ◌+◌, ◌<◌, ◌≤◌, List, [], ◌∷◌, length, slice_get, slice_index_or, slice_set, Bool, true, false, cond, nat_eq, Option, Some, None, refl, IsTrue, drop}
+use Rattle.std.specs.Prelude.{◌≡◌, ℕ, zero, suc, ◌+◌, ◌<◌, ◌≤◌, List, [], ◌∷◌, length, slice_index_or, slice_set, Bool, true, false, cond, nat_eq, Option, Some, None, refl, IsTrue, drop}
 use Rattle.std.specs.List.{list_any}
 use Rattle.std.proofs.Common.{arith, ap, sym, ◌∙◌, inl, inr}
 use Rattle.certs.specs.Trees.{of_live, kept, dropped}

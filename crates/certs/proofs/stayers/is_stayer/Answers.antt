@@ -1,4 +1,4 @@
-use Rattle.std.proofs.Common.{length, sym, ◌∙◌}
+use Rattle.std.proofs.Common.{length}
 use Rattle.scenario_changes.specs.Problems.{problem, program_at}
 use Rattle.certs.proofs.StayerLemmas.{stays_occupied, stays_in, is_none_is}
 use Rattle.certs.proofs.stayers.is_stayer.Goals as goal
