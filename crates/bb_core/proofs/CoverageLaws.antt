@@ -16,7 +16,8 @@ use Rattle.certs.specs.declared.level.Level.{Level}
 use Rattle.certs.specs.declared.level.Level.TheVariants.{Value, Inf}
 use Rattle.certs.proofs.TreeLaws.{AllWithin, some_end, AtMost-below}
 use Rattle.certs.proofs.TreeLevels.{place-below}
-use Rattle.bb_core.specs.Settlements.{Settlement, Outcome, Close, Branch, place_of, recorded, ChildrenAre, of_live}
+use Rattle.bb_core.specs.Settlements.{Settlement, Outcome, Close, Branch, place_of, recorded, ChildrenAre}
+use Rattle.certs.specs.Trees.{of_live}
 use Rattle.bb_core.specs.Coverage.{Mark, Closed, Open, Held, Slot, Stands, MaySettle, ReachesCaps, placed_of, Covers, LiesInWaiting, NothingIsLost, LevelsAreBounds, marked_as, slot_at, new_slots, open_at, root_slot, settled}
 use Rattle.bb_core.proofs.ListWrites.{map-get, some_same, set-get, append-get}
 use Rattle.bb_core.proofs.TreeSteps.{leaf-tree, split-tree}

@@ -12,7 +12,8 @@ use Rattle.certs.specs.declared.verdict.Verdict.{Verdict}
 use Rattle.certs.specs.declared.verdict.Verdict.TheVariants.{Bound}
 use Rattle.certs.proofs.Examples.{root, cert}
 use Rattle.certs.proofs.TreeExamples.{two, split, left, right}
-use Rattle.bb_core.specs.Settlements.{Work, Outcome, Close, Branch, Settlement, of_live, place_of, recorded, ChildrenAre, IsLawful}
+use Rattle.bb_core.specs.Settlements.{Work, Outcome, Close, Branch, Settlement, place_of, recorded, ChildrenAre, IsLawful}
+use Rattle.certs.specs.Trees.{of_live}
 use Rattle.bb_core.specs.Coverage.{Slot, Closed, Open, Held, ReachesCaps, MaySettle, LiesInWaiting, marked_as, root_slot, settled}
 
 -- ---- the place of a work

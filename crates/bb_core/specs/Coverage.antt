@@ -10,7 +10,8 @@ use Rattle.certs.specs.declared.tree.Node.{Node}
 use Rattle.certs.specs.declared.tree.Node.TheVariants.{Rest}
 use Rattle.certs.specs.declared.level.Level.{Level}
 use Rattle.certs.specs.declared.level.Level.TheVariants.{Inf}
-use Rattle.bb_core.specs.Settlements.{Settlement, Outcome, Close, Branch, IsLawful, of_live, place_of, recorded}
+use Rattle.bb_core.specs.Settlements.{Settlement, Outcome, Close, Branch, IsLawful, place_of, recorded}
+use Rattle.certs.specs.Trees.{of_live}
 
 -- who holds a node is a number
 pub data Mark : Type 0 where

@@ -1,9 +1,8 @@
 -- What is worked on at a node, what is made of it, and when that may be recorded.
-use Rattle.std.specs.Prelude.{◌≡◌, ℕ, suc, ◌+◌, ℤ, nat_eq, if◌then◌else◌, List, [], ◌∷◌, Option, Some, None, IsTrue}
-use Rattle.std.specs.List.{list_any}
+use Rattle.std.specs.Prelude.{◌≡◌, ℕ, ◌+◌, ℤ, List, Some, IsTrue}
 use Rattle.int_model.specs.Boxes.{Box}
 use Rattle.scenario_changes.specs.Problems.{Problem}
-use Rattle.certs.specs.Trees.{Place, is_valid, children}
+use Rattle.certs.specs.Trees.{Place, of_live, is_valid, children}
 use Rattle.certs.specs.declared.cert.Cert.{Cert}
 use Rattle.certs.specs.declared.tree.Node.{Node}
 use Rattle.certs.specs.declared.tree.Node.TheVariants.{Leaf, Split}
@@ -27,11 +26,6 @@ pub record Settlement : Type 0 where
   pub cert : Cert
   pub verdicts : List Verdict
   pub outcome : Outcome
-
--- the levels of the live scenarios, None for the others; the scenarios are counted from k
-abbrev pub of_live : List ℕ → ℕ → List Level → List (Option Level)
-of_live live k [] = []
-of_live live k (l ∷ ls) = (if list_any (nat_eq k) live then Some l else None) ∷ of_live live (suc k) ls
 
 abbrev pub place_of : Work → Place
 place_of w = record { box = w.bounds; levels = of_live w.live 0 w.levels }

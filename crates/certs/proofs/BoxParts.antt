@@ -83,7 +83,7 @@ Narrower-lower : (terms : Terms) (e : Option ℤ) (j : ℕ) (box : Box) → Narr
 Narrower-lower terms None j box = Narrower-refl (interval_at box j)
 Narrower-lower terms (Some w) j box = Narrower-narrowed (neg_ℤ (coefficient j terms)) (greatest_sum (without j terms) box -ℤ w) (interval_at box j)
 
-Narrower-left : (terms : Terms) (e : Ends) (side : RowEnd) (j : ℕ) (box : Box) → Narrower (left_by terms e side j box) (interval_at box j)
+pub Narrower-left : (terms : Terms) (e : Ends) (side : RowEnd) (j : ℕ) (box : Box) → Narrower (left_by terms e side j box) (interval_at box j)
 Narrower-left terms e Lower j box = Narrower-lower terms e.lower j box
 Narrower-left terms e Upper j box = Narrower-upper terms e.upper j box
 

@@ -12,3 +12,9 @@ pub mod ClaimLaws
 pub mod FitLemmas
 pub mod Examples
 pub mod TreeExamples
+pub mod SetLemmas
+pub mod LevelLists
+pub mod StayerLemmas
+pub mod RaiseLaws
+pub mod LimitLaws
+pub mod ArrivalLemmas

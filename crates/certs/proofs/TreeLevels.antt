@@ -34,7 +34,7 @@ InBox-HasPoints (i ∷ box) [] h = absurd h
 InBox-HasPoints (i ∷ box) (v ∷ x) h = (omega (arith, ints, h.0, h.1), InBox-HasPoints box x h.2)
 
 -- where f turns a list into one element, it turns one of its elements into that
-flat_map-source : {X Y : Type 0} (f : X → List Y) (xs : List X) (y : Y) → flat_map f xs ≡ y ∷ [] → (i : ℕ) × (e : X) × (slice_get xs i ≡ Some e) × (f e ≡ y ∷ [])
+pub flat_map-source : {X Y : Type 0} (f : X → List Y) (xs : List X) (y : Y) → flat_map f xs ≡ y ∷ [] → (i : ℕ) × (e : X) × (slice_get xs i ≡ Some e) × (f e ≡ y ∷ [])
 flat_map-source f [] y h = absurd (cc)
 flat_map-source {X} {Y} f (x ∷ xs) y h = by_head (f x) refl h (λ q. flat_map-source f xs y q)
   where
@@ -53,7 +53,7 @@ some_same : {X : Type 0} {a b : X} → ◌≡◌ {A = Option X} (Some a) (Some b
 some_same e = cc
 
 -- a raised level comes of a level and a valid verdict
-raised-from : (box : Box) (cert : Cert) (ss : List Program) (ls : List (Option Level)) (vs : List Verdict) (rs : List (Option Level)) (k : ℕ) (s : Program) (r : Level) → raised box cert ss ls vs ≡ Some rs → slice_get ss k ≡ Some s → slice_index_or rs k None ≡ Some r → (v : Verdict) × (l : Level) × (m : Level) × (slice_index_or ls k None ≡ Some l) × (judged s box cert v ≡ Some m) × (r ≡ greater_level l m)
+pub raised-from : (box : Box) (cert : Cert) (ss : List Program) (ls : List (Option Level)) (vs : List Verdict) (rs : List (Option Level)) (k : ℕ) (s : Program) (r : Level) → raised box cert ss ls vs ≡ Some rs → slice_get ss k ≡ Some s → slice_index_or rs k None ≡ Some r → (v : Verdict) × (l : Level) × (m : Level) × (slice_index_or ls k None ≡ Some l) × (judged s box cert v ≡ Some m) × (r ≡ greater_level l m)
 raised-from box cert [] ls vs rs k s r e p q = absurd (cc)
 raised-from box cert (t ∷ ss) [] vs rs k s r e p q = absurd (cc)
 raised-from box cert (t ∷ ss) (None ∷ ls) vs rs zero s r e p q =
@@ -76,7 +76,7 @@ raised-from box cert (t ∷ ss) (Some o ∷ ls) (v ∷ vs) rs (suc k) s r e p q 
     raised-from box cert ss ls vs m.0 k s r m.1 p (ap (λ (xs : List (Option Level)). slice_index_or xs (suc k) None) m.2 ∙ q)
 
 -- a place that is handed on is one of the two
-one_of_two : (n child : ℕ) (low high q : Place) → handed_on n child (Some (low, high)) ≡ q ∷ [] → (low ≡ q) ⊎ (high ≡ q)
+pub one_of_two : (n child : ℕ) (low high q : Place) → handed_on n child (Some (low, high)) ≡ q ∷ [] → (low ≡ q) ⊎ (high ≡ q)
 one_of_two n child low high q e = by_test (nat_eq n child) (nat_eq n (suc child)) e
   where
     by_test : (a b : Bool) → cond a (low ∷ []) (cond b (high ∷ []) []) ≡ q ∷ [] → (low ≡ q) ⊎ (high ≡ q)
@@ -84,7 +84,7 @@ one_of_two n child low high q e = by_test (nat_eq n child) (nat_eq n (suc child)
     by_test false true g = inr (let u : high ≡ q = cc in u)
     by_test false false g = absurd (cc)
 
-kept-from : (stay : List ℕ) (ls : List (Option Level)) (k : ℕ) (l : Level) → slice_index_or (kept stay 0 ls) k None ≡ Some l → slice_index_or ls k None ≡ Some l
+pub kept-from : (stay : List ℕ) (ls : List (Option Level)) (k : ℕ) (l : Level) → slice_index_or (kept stay 0 ls) k None ≡ Some l → slice_index_or ls k None ≡ Some l
 kept-from stay ls k l e = by_test (list_any (nat_eq (0 + k)) stay) (sym (kept_at stay 0 ls k) ∙ e)
   where
     by_test : (b : Bool) → cond b (slice_index_or ls k None) None ≡ Some l → slice_index_or ls k None ≡ Some l

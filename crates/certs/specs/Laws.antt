@@ -5,7 +5,7 @@ use Rattle.int_model.specs.Programs.{Program, Feasible, value}
 use Rattle.scenario_changes.specs.Problems.{Problem, IsWithin, AreWithin, root_box}
 use Rattle.scenario_changes.specs.Answers.{HasValue, RightAnswer}
 use Rattle.scenario_changes.specs.declared.answer.Answer.{Answer}
-use Rattle.certs.specs.Levels.{AtMost, level_le, greater_level, lesser_level}
+use Rattle.certs.specs.Levels.{AtMost, LevelFits, level_le, greater_level, lesser_level}
 use Rattle.certs.specs.Verdicts.{judged, start_level}
 use Rattle.certs.specs.Trees.{Place, IsTree, end_levels}
 use Rattle.certs.specs.Claims.{Accepted, bound_of, claim_of}
@@ -63,6 +63,10 @@ PlacesAreSafe = (p : Problem) (placed : List (Node × Place)) → AreWithin p �
 -- a tree has at most 2V - 1 nodes, where its root box has V points
 abbrev pub TreeIsSmall : Type 0
 TreeIsSmall = (p : Problem) (placed : List (Node × Place)) → AreWithin p → IsTree p placed → 1 ≤ volume (root_box p.scenarios) → length placed ≤ 2 * volume (root_box p.scenarios) - 1
+
+-- the least level over the ends of a scenario is Inf or within ±2^60
+abbrev pub BoundsFit : Type 0
+BoundsFit = (p : Problem) (placed : List (Node × Place)) → AreWithin p → IsTree p placed → (k : ℕ) (s : Program) → slice_get p.scenarios k ≡ Some s → LevelFits (bound_of p placed k)
 
 -- ---- claims
 

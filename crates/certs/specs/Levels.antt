@@ -1,5 +1,5 @@
 -- Levels: numbers, and one above them all.
-use Rattle.std.specs.Prelude.{ℤ, ◌≤ℤ◌, Bool, true, false, int_le, if◌then◌else◌, List, [], ◌∷◌, Option, Some, None}
+use Rattle.std.specs.Prelude.{◌≤◌, ◌^◌, ℤ, ◌≤ℤ◌, unsigned_abs, Bool, true, false, int_le, if◌then◌else◌, List, [], ◌∷◌, Option, Some, None}
 use Rattle.certs.specs.declared.level.Level.{Level}
 use Rattle.certs.specs.declared.level.Level.TheVariants.{Value, Inf}
 
@@ -30,3 +30,8 @@ cap_level (Some v) = Value v
 abbrev pub AtMost : Level → ℤ → Type 0
 AtMost (Value a) v = a ≤ℤ v
 AtMost Inf v = ⊥
+
+-- Inf, or a number within ±2^60, as all values are
+abbrev pub LevelFits : Level → Type 0
+LevelFits (Value a) = unsigned_abs a ≤ 2 ^ 60
+LevelFits Inf = Unit {0}

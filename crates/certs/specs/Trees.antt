@@ -40,6 +40,11 @@ pub record Place : Type 0 where
 abbrev pub root_place : Problem → Place
 root_place p = record { box = root_box p.scenarios; levels = map (λ (s : Program). Some (start_level (root_box p.scenarios) s)) p.scenarios }
 
+-- the levels of the live scenarios, None for the others; the scenarios are counted from k
+abbrev pub of_live : List ℕ → ℕ → List Level → List (Option Level)
+of_live live k [] = []
+of_live live k (l ∷ ls) = (if list_any (nat_eq k) live then Some l else None) ∷ of_live live (suc k) ls
+
 abbrev pub is_live : List (Option Level) → ℕ → Bool
 is_live levels k = is_some (slice_index_or levels k None)
 

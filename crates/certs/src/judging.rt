@@ -57,8 +57,9 @@ fn row_level(problem: &Problem, s: u32, part: &PointBox, row: u32) -> Option<Lev
     }
 }
 
-// The level of a vector whose scale is 0, None where its sum isn't positive.
-fn farkas_level(problem: &Problem, s: u32, part: &PointBox, vector: &Vector) -> Option<Level>
+/// The level that a vector whose scale is 0 shows over a box: Inf where its sum is positive, None where it
+/// shows nothing.
+pub fn farkas_level(problem: &Problem, s: u32, part: &PointBox, vector: &Vector) -> Option<Level>
     requires scenario { s < length (problems.problem problem.now).scenarios }
     requires columns { length part.now ≡ length problem.now.model.columns }
     requires rows { RowsBelow (length problem.now.model.rows) vector.now.entries }
@@ -77,8 +78,9 @@ fn farkas_level(problem: &Problem, s: u32, part: &PointBox, vector: &Vector) -> 
     if sum > 0 { Some(Level::Inf) } else { None }
 }
 
-// The bound of a vector, None where its scale is 0.
-fn bound_level(problem: &Problem, s: u32, part: &PointBox, vector: &Vector) -> Option<Level>
+/// The level that a vector with a scale above 0 shows over a box, which is its bound; None where the scale
+/// is 0.
+pub fn bound_level(problem: &Problem, s: u32, part: &PointBox, vector: &Vector) -> Option<Level>
     requires scenario { s < length (problems.problem problem.now).scenarios }
     requires columns { length part.now ≡ length problem.now.model.columns }
     requires rows { RowsBelow (length problem.now.model.rows) vector.now.entries }

@@ -6,20 +6,26 @@
 //! `laws` has what is proved of these definitions.
 #![tactic(auto)]
 
+mod arriving;
 mod cert;
 mod judging;
 pub mod laws;
 mod level;
 mod lists;
+mod raising;
 mod start;
+mod stayers;
 mod tree;
 mod verdict;
 
+pub use arriving::{children_levels, start_levels};
 pub use cert::Cert;
-pub use judging::judge;
+pub use judging::{bound_level, farkas_level, judge};
 pub use level::Level;
 pub use lists::{Levels, Steps, Vectors, Verdicts};
+pub use raising::raise;
 pub use start::start_level;
+pub use stayers::{are_live, hull_stayers, is_member, is_stayer, live_level, missed_row, rising};
 pub use tree::{Node, Tree};
 pub use verdict::Verdict;
 

@@ -11,6 +11,7 @@ mod shares;
 mod vector;
 
 pub use bounding::{bound, evaluate};
+pub use parts::{counting_multiplier, end_product, least_product, side};
 pub use vector::{Vector, VectorError};
 
 #[cfg(test)]

@@ -8,8 +8,9 @@ ghost use Rattle.dual_bounds.specs.Counting.{IsMultiplier, counting};
 
 use int_model::Ends;
 
-// The row's lower end for a multiplier above 0, else its upper end.
-fn side(ends: &[Ends], row: u32, multiplier: i64) -> Option<i64>
+/// The end that a multiplier is held against: the row's lower one for a multiplier above 0, else its upper
+/// one.
+pub fn side(ends: &[Ends], row: u32, multiplier: i64) -> Option<i64>
     requires { row < length ends.now }
     ensures { result ≡ spec.side ends.now (row, multiplier) }
 {
@@ -21,8 +22,8 @@ fn side(ends: &[Ends], row: u32, multiplier: i64) -> Option<i64>
     }
 }
 
-// A multiplier times its end, 0 where the row hasn't got that end.
-fn end_product(ends: &[Ends], row: u32, multiplier: i64) -> i128
+/// A multiplier times its end, 0 where the row hasn't got that end.
+pub fn end_product(ends: &[Ends], row: u32, multiplier: i64) -> i128
     requires row { row < length ends.now }
     requires multiplier { IsMultiplier multiplier }
     ensures value { result ≡ multiplier *ℤ unwrap_or (spec.side ends.now (row, multiplier)) (pos 0) }
@@ -47,7 +48,7 @@ pub fn end_sum(ends: &[Ends], entries: &[(u32, i64)]) -> i128
     sum
 }
 
-/// The multiplier, 0 where the row hasn't got its end.
+/// The multiplier as far as it counts: 0 where the row hasn't got its end.
 pub fn counting_multiplier(ends: &[Ends], row: u32, multiplier: i64) -> i64
     requires row { row < length ends.now }
     requires multiplier { IsMultiplier multiplier }

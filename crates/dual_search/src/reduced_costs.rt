@@ -10,6 +10,7 @@ ghost use Rattle.dual_bounds.specs.Counting as merging;
 ghost use Rattle.dual_search.specs.Gains.{AreSmall};
 ghost use Rattle.dual_search.specs.Gains as gains;
 
+use dual_bounds::{counting_multiplier, end_product, least_product};
 use int_model::{Ends, PointBox};
 use std::alloc::{AllocError, Global};
 
@@ -20,32 +21,6 @@ pub struct ReducedCosts {
     costs: Vec<i128>,
 }
 
-// The end that a multiplier is held against: the lower one for a multiplier above 0, else the upper one.
-fn side(ends: &[Ends], row: u32, multiplier: i64) -> Option<i64>
-    requires { row < length ends.now }
-    ensures { result ≡ vectors.side ends.now (row, multiplier) }
-{
-    let of_row = ends[row as usize];
-    if multiplier > 0 {
-        of_row.lower
-    } else {
-        of_row.upper
-    }
-}
-
-// The multiplier as far as it counts: 0 where the row hasn't got the end.
-fn counting(ends: &[Ends], row: u32, multiplier: i64) -> i64
-    requires row { row < length ends.now }
-    requires multiplier { IsMultiplier multiplier }
-    ensures value { result ≡ merging.counting ends.now (row, multiplier) }
-    ensures limit { IsMultiplier result }
-{
-    match side(ends, row, multiplier) {
-        Some(_) => multiplier,
-        None => 0,
-    }
-}
-
 // By how much the multiplier that counts grows.
 fn counting_step(ends: &[Ends], row: u32, from: i64, to: i64) -> i64
     requires row { row < length ends.now }
@@ -54,18 +29,7 @@ fn counting_step(ends: &[Ends], row: u32, from: i64, to: i64) -> i64
     ensures value { result ≡ merging.counting ends.now (row, to) -ℤ merging.counting ends.now (row, from) }
     ensures limit { unsigned_abs result ≤ 2 ^ 41 }
 {
-    counting(ends, row, to) - counting(ends, row, from)
-}
-
-// A multiplier times its end, 0 where the row hasn't got the end.
-fn end_product(ends: &[Ends], row: u32, multiplier: i64) -> i128
-    requires row { row < length ends.now }
-    requires multiplier { IsMultiplier multiplier }
-    ensures value { result ≡ gains.end_product ends.now (row, multiplier) }
-    ensures limit { unsigned_abs result ≤ 2 ^ 103 }
-{
-    let end = side(ends, row, multiplier).unwrap_or(0);
-    i128::from(multiplier) * i128::from(end)
+    counting_multiplier(ends, row, to) - counting_multiplier(ends, row, from)
 }
 
 // A reduced cost where the multiplier of a row with this coefficient has grown by a step.
@@ -77,27 +41,6 @@ fn moved(cost: i128, step: i64, coefficient: i64) -> i128
     ensures limit { unsigned_abs result ≤ 2 ^ 84 }
 {
     cost - i128::from(step) * i128::from(coefficient)
-}
-
-// A reduced cost times a number of an interval.
-fn product(cost: i128, number: i32) -> i128
-    requires cost { unsigned_abs cost ≤ 2 ^ 84 }
-    requires number { IsBound number }
-    ensures value { result ≡ cost *ℤ number }
-    ensures limit { unsigned_abs result ≤ 2 ^ 104 }
-{
-    cost * i128::from(number)
-}
-
-// The least of a reduced cost times a number of an interval.
-fn least_product(cost: i128, low: i32, high: i32) -> i128
-    requires cost { unsigned_abs cost ≤ 2 ^ 84 }
-    requires low { IsBound low }
-    requires high { IsBound high }
-    ensures value { result ≡ sums.least_product cost (record { low = low; high = high }) }
-    ensures limit { unsigned_abs result ≤ 2 ^ 104 }
-{
-    product(cost, low).min(product(cost, high))
 }
 
 // By how much the least product of one column grows.

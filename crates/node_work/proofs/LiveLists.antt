@@ -17,7 +17,7 @@ use Rattle.certs.specs.Verdicts.{judged}
 use Rattle.certs.specs.declared.level.Level.{Level}
 use Rattle.certs.specs.declared.verdict.Verdict.{Verdict}
 use Rattle.certs.specs.declared.cert.Cert.{Cert}
-use Rattle.bb_core.specs.Settlements.{of_live}
+use Rattle.certs.specs.Trees.{of_live}
 use Rattle.node_work.specs.Probes.{Found, EachLive, IsGoodVerdict}
 use Rattle.node_work.proofs.SetLemmas.{any_in, in_any}
 

@@ -4,7 +4,7 @@ use Rattle.std.specs.List.{list_any}
 use Rattle.std.proofs.Common.{arith, ap, sym, ◌∙◌, subst, inl, inr}
 use Rattle.certs.specs.Trees.{kept}
 use Rattle.certs.specs.declared.level.Level.{Level}
-use Rattle.bb_core.specs.Settlements.{of_live}
+use Rattle.certs.specs.Trees.{of_live}
 use Rattle.node_work.specs.Stayers.{is_below, undercuts}
 use Rattle.node_work.proofs.LevelLists.{live_at, live_kept, kept_none, kept_some}
 

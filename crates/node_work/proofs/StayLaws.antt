@@ -17,7 +17,8 @@ use Rattle.certs.specs.declared.verdict.Verdict.{Verdict}
 use Rattle.certs.specs.declared.verdict.Verdict.TheVariants.{Empty, Misses, Farkas, Bound, Point}
 use Rattle.certs.specs.declared.cert.Cert.{Cert}
 use Rattle.live_sets.proofs.RisingLists.{In, in-Contains, Contains-in}
-use Rattle.bb_core.specs.Settlements.{Work, of_live, place_of}
+use Rattle.bb_core.specs.Settlements.{Work, place_of}
+use Rattle.certs.specs.Trees.{of_live}
 use Rattle.node_work.specs.Probes.{Found, IsGoodVerdict, IsSolved, lows_of}
 use Rattle.node_work.specs.Stayers.{is_below, undercuts, AreStayers, CutsAreReached, IsOpen, AreOpen}
 use Rattle.node_work.proofs.LevelOrder.{le_trans, le_inf, le_greater}

@@ -5,7 +5,8 @@ use Rattle.scenario_changes.specs.Problems.{Problem}
 use Rattle.certs.specs.Trees.{stayers_hull, splits_inside, kept}
 use Rattle.certs.specs.declared.cert.Cert.{Cert}
 use Rattle.certs.specs.declared.level.Level.{Level}
-use Rattle.bb_core.specs.Settlements.{Outcome, Close, Branch, of_live}
+use Rattle.bb_core.specs.Settlements.{Outcome, Close, Branch}
+use Rattle.certs.specs.Trees.{of_live}
 
 -- the column, the value, the two boxes and the two lists of levels are those of a split of the stayers' hull
 pub record IsBranchOf (p : Problem) (box : Box) (cert : Cert) (stay : List ℕ) (rs : List (Option Level)) (column : ℕ) (v : ℤ) (left right : Box) (left_levels right_levels : List Level) : Type 0 where

@@ -4,7 +4,8 @@ ghost use Rattle.std.specs.Prelude.{◌≡◌, ◌<◌, ◌≤◌, ℕ, true, fa
 ghost use Rattle.std.specs.Arc.{arc_value};
 ghost use Rattle.std.specs.List.{list_any};
 ghost use Rattle.certs.specs.Levels.{greater_level};
-ghost use Rattle.bb_core.specs.Settlements.{of_live, place_of};
+ghost use Rattle.bb_core.specs.Settlements.{place_of};
+ghost use Rattle.certs.specs.Trees.{of_live};
 ghost use Rattle.certs.specs.Trees.{raised};
 ghost use Rattle.tighten.specs.Steps.{IsStep};
 ghost use Rattle.certs.specs.Verdicts.{AllRowsBelow};

@@ -2,7 +2,7 @@
 ghost use Rattle.std.specs.Prelude.{◌≡◌, ◌≤◌, ◌<◌, ℕ, slice_get, slice_index_or, None, true, false, length, IfOk, nat_eq};
 ghost use Rattle.std.specs.List.{list_any};
 ghost use Rattle.certs.specs.Trees.{kept};
-ghost use Rattle.bb_core.specs.Settlements.{of_live};
+ghost use Rattle.certs.specs.Trees.{of_live};
 
 use crate::stayers::is_member;
 use certs::{Level, Levels};

@@ -7,7 +7,8 @@ use Rattle.std.proofs.lemmas.Bool.Decides.{nat_tests}
 use Rattle.int_model.specs.Boxes.{Box, below_cut, above_cut}
 use Rattle.scenario_changes.specs.Problems.{Problem}
 use Rattle.certs.specs.Trees.{Place, raised, cert_fits, is_live, is_rising, stayers_hull, splits_inside, kept, dropped, end_levels, two_places}
-use Rattle.bb_core.specs.Settlements.{Work, Settlement, Close, Branch, place_of, recorded, of_live}
+use Rattle.bb_core.specs.Settlements.{Work, Settlement, Close, Branch, place_of, recorded}
+use Rattle.certs.specs.Trees.{of_live}
 use Rattle.bb_core.specs.Coverage.{ReachesCaps, Slot, slot_at, MaySettle}
 use Rattle.certs.specs.declared.cert.Cert.{Cert}
 use Rattle.certs.specs.declared.verdict.Verdict.{Verdict}

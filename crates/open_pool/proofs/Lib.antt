@@ -3,11 +3,8 @@ pub mod LawfulLaws
 pub mod LevelLists
 pub mod NextLaws
 pub mod PoolLaws
-pub mod RaiseLaws
 pub mod SoundLaws
 pub mod BoxLemmas
-pub mod SetLemmas
-pub mod StayerLemmas
 pub mod WideLemmas
 pub mod StartLemmas
 pub mod Examples

@@ -7,7 +7,8 @@ use Rattle.std.proofs.Common.{arith, ap, sym, ◌∙◌, subst, Vec, Global, vec
 use Rattle.bb_core.specs.Coverage.{Mark, Closed, Open, Slot, Covers, slot_at, settled, new_slots, open_at, marked_as, MaySettle}
 use Rattle.open_pool.specs.PoolParts.{IsSound}
 use Rattle.open_pool.specs.declared.pool.Pool.TheInside.{Inside}
-use Rattle.bb_core.specs.Settlements.{Settlement, Outcome, Close, Branch, place_of, recorded, of_live}
+use Rattle.bb_core.specs.Settlements.{Settlement, Outcome, Close, Branch, place_of, recorded}
+use Rattle.certs.specs.Trees.{of_live}
 use Rattle.int_model.specs.Boxes.{Box}
 use Rattle.certs.specs.Trees.{Place}
 use Rattle.open_pool.specs.Marks.{claimed, lesser_than}

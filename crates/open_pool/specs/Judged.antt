@@ -10,7 +10,8 @@ use Rattle.certs.specs.Trees.{raised, cert_fits, is_live, stayers_hull, splits_i
 use Rattle.certs.specs.declared.cert.Cert.{Cert}
 use Rattle.certs.specs.declared.verdict.Verdict.{Verdict}
 use Rattle.certs.specs.declared.level.Level.{Level}
-use Rattle.bb_core.specs.Settlements.{Work, Settlement, IsLawful, place_of, recorded, of_live}
+use Rattle.bb_core.specs.Settlements.{Work, Settlement, IsLawful, place_of, recorded}
+use Rattle.certs.specs.Trees.{of_live}
 use Rattle.bb_core.specs.Coverage.{Slot, ReachesCaps}
 use Rattle.open_pool.specs.declared.scratch.Scratch.{Scratch}
 

@@ -9,12 +9,10 @@ ghost use Rattle.open_pool.specs.Judged.{FitsModel, IsScratch, IsRaised, IsBranc
 ghost use Rattle.bb_core.specs.Shared.{work_of, outcome_of, stay_of};
 
 use crate::boxes::{are_cut, is_inside};
-use crate::judging::raise;
 use crate::levels::{are_kept, reach};
 use crate::scratch::Scratch;
-use crate::stayers::{all_live, hull_stayers, rising};
 use bb_core::{Outcome, Work};
-use certs::{Cert, Level, Levels, Verdicts};
+use certs::{Cert, Level, Levels, Verdicts, are_live, hull_stayers, raise, rising};
 use int_model::PointBox;
 use live_sets::LiveSet;
 use scenario_changes::Problem;
@@ -40,7 +38,9 @@ fn is_raised(
     }
     raise(
         problem,
-        work,
+        &work.bounds,
+        work.live,
+        &work.levels,
         cert,
         verdicts,
         &mut scratch.raised,
@@ -106,7 +106,7 @@ fn is_branched(
     ensures yes { result ≡ true → IsBranched (problems.problem problem.now) (work_of work.now) cert.now scratch.old.raised.items stay column value left.now right.now left_levels.now right_levels.now }
     ensures no { result ≡ false → IsBranched (problems.problem problem.now) (work_of work.now) cert.now scratch.old.raised.items stay column value left.now right.now left_levels.now right_levels.now → ⊥ }
 {
-    if !all_live(stay, work.live, &work.levels) {
+    if !are_live(stay, work.live, &work.levels) {
         return false;
     }
     if column >= problem.model().columns() {

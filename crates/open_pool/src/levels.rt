@@ -1,32 +1,15 @@
 // Levels of live scenarios, and tests on lists of them.
 ghost use Rattle.std.specs.Prelude.{◌≡◌, ◌<◌, ◌≤◌, ℕ, true, false, List, Option, length, slice_get, slice_index_or, Some, None, IsTrue};
 ghost use Rattle.certs.specs.Levels.{level_le};
-ghost use Rattle.bb_core.specs.Settlements.{of_live};
+ghost use Rattle.certs.specs.Trees.{of_live};
 ghost use Rattle.bb_core.specs.Coverage.{ReachesCaps};
 ghost use Rattle.open_pool.specs.Marks.{least_live, lesser_than};
 ghost use Rattle.certs.specs.Trees.{kept, dropped};
 ghost use Rattle.certs.specs.declared.level.Level.{Level as Bound};
 ghost use Rattle.certs.specs.declared.level.Level.TheVariants.{Inf};
 
-use crate::stayers::is_member;
-use certs::{Level, Levels};
+use certs::{Level, Levels, is_member, live_level};
 use live_sets::LiveSet;
-
-/// The level of a live scenario.
-#[tactic(auto, using(crate::proofs::LevelLists::live_none, crate::proofs::LevelLists::live_past, crate::proofs::LevelLists::live_some))]
-pub(crate) fn live_level(live: LiveSet, levels: &Levels, k: u32) -> Option<Level>
-    ensures { result ≡ slice_index_or (of_live live 0 levels.now) k None }
-{
-    if !is_member(live, k) {
-        return None;
-    }
-    let items = levels.as_slice();
-    if (k as usize) < items.len() {
-        Some(items[k as usize])
-    } else {
-        None
-    }
-}
 
 fn is_same(a: Option<Level>, b: Option<Level>) -> bool
     ensures yes { result ≡ true → a ≡ b }

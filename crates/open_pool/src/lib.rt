@@ -10,14 +10,12 @@
 #![tactic(auto)]
 
 mod boxes;
-mod judging;
 mod lawful;
 mod levels;
 mod pool;
 mod scan;
 mod scratch;
 mod slot;
-mod stayers;
 
 pub use pool::{Claim, Pool, Settled};
 

@@ -1,11 +1,9 @@
 // The pool of open nodes.
 ghost use Rattle.std.specs.Prelude.{◌≡◌, ◌<◌, ◌≤◌, ◌+◌, ℕ, true, false, length, map, vec_capacity, slice_set, slice_index_or, Some, IfOk, OnErr};
-ghost use Rattle.scenario_changes.specs.Problems.{root_box};
 ghost use Rattle.scenario_changes.specs.Problems as problems;
-ghost use Rattle.certs.specs.Verdicts as verdicts;
 ghost use Rattle.certs.specs.Claims.{bound_of};
 ghost use Rattle.certs.specs.Trees.{dropped};
-ghost use Rattle.certs.specs.Levels.{cap_level, lesser_level};
+ghost use Rattle.certs.specs.Levels.{cap_level, lesser_level, LevelFits};
 ghost use Rattle.certs.specs.declared.level.Level.TheVariants.{Value, Inf};
 ghost use Rattle.bb_core.specs.Settlements.{place_of};
 ghost use Rattle.bb_core.specs.Coverage as coverage;
@@ -24,7 +22,7 @@ use crate::scan::{count_claimed, count_open, has_claimed, next_open, waiting_lea
 use crate::scratch::Scratch;
 use crate::slot::{Mark, Slot};
 use bb_core::{Outcome, Settlement, Work};
-use certs::{Level, Levels, Node, Tree, start_level};
+use certs::{Level, Node, Tree, start_levels};
 use live_sets::LiveSet;
 use scenario_changes::Problem;
 use std::alloc::{AllocError, Global};
@@ -264,10 +262,12 @@ impl<'p> Pool<'p> {
         count_claimed(self.slots.as_slice())
     }
 
-    /// The least level of a scenario over all its ends: where its search stopped, or waits.
+    /// The least level of a scenario over all its ends: where its search stopped, or waits. It is `Inf` or
+    /// within ±2^60.
     pub fn end_level(&self, s: u32) -> Level
         requires { s < length self.now.problem.scenarios }
-        ensures { result ≡ bound_of self.now.problem (placed_of self.now.slots) s }
+        ensures value { result ≡ bound_of self.now.problem (placed_of self.now.slots) s }
+        ensures limit { LevelFits result }
     {
         let closed = level_at(self.ends.as_slice(), s);
         let waiting = waiting_least(self.slots.as_slice(), s);
@@ -442,18 +442,6 @@ fn stayers(outcome: &Outcome) -> LiveSet
         Outcome::Close => LiveSet::none(),
         Outcome::Split { stay, .. } => *stay,
     }
-}
-
-// The level where the search of each scenario starts.
-fn start_levels(alloc: Global, problem: &Problem) -> Result<Levels, AllocError>
-    ensures { IfOk result (λ levels. levels ≡ map (λ s. verdicts.start_level (root_box (problems.problem problem.now).scenarios) s) (problems.problem problem.now).scenarios) }
-{
-    let count = problem.count();
-    let mut levels = Vec::with_capacity(alloc, count as usize)?;
-    for s in 0..count {
-        levels.push_reserved(start_level(problem, s));
-    }
-    Ok(Levels::from_vec(levels))
 }
 
 // The root, open.

@@ -1,16 +1,17 @@
 // A place of the pool: a node, where it stands, and its mark.
 ghost use Rattle.std.specs.Prelude.{◌≡◌, ◌≤◌, length, true, false, IfOk, IsTrue};
 ghost use Rattle.std.specs.Arc.{arc_value};
-ghost use Rattle.bb_core.specs.Settlements.{place_of, of_live};
+ghost use Rattle.bb_core.specs.Settlements.{place_of};
+ghost use Rattle.certs.specs.Trees.{of_live};
 ghost use Rattle.bb_core.specs.Coverage.{Closed, Open, open_at};
 ghost use Rattle.open_pool.specs.Marks.{mark_of, claimed, least_live};
 ghost use Rattle.bb_core.specs.Shared.{work_of};
 ghost use Rattle.open_pool.specs.Ends.{waiting_level};
 
 use crate::boxes::is_same_box;
-use crate::levels::{are_same, least_of, live_level};
+use crate::levels::{are_same, least_of};
 use bb_core::{Cuts, Hint, Work};
-use certs::{Level, Levels, Node};
+use certs::{Level, Levels, Node, live_level};
 use int_model::PointBox;
 use live_sets::LiveSet;
 use std::alloc::{AllocError, Global};
@@ -42,7 +43,7 @@ impl Model for Slot {
     ghost use Rattle.std.specs.Prelude.{◌≡◌};
     ghost use Rattle.std.specs.Arc.{arc_value};
     ghost use Rattle.bb_core.specs.Coverage.{Slot as Standing};
-    ghost use Rattle.bb_core.specs.Settlements.{of_live};
+    ghost use Rattle.certs.specs.Trees.{of_live};
 
     ghost Value = { Standing };
 

@@ -2,7 +2,7 @@ use Rattle.scenario_changes.specs.Problems as problems
 use Rattle.std.proofs.Common.{arith, ◌≡◌, ◌≤◌, ◌<◌, ◌++◌, ◌∷◌, [], ℕ, length, slice_index_or, Some, None, sym, ap, ◌∙◌, subst, List, Option, Vec, Global, vec_capacity, Bor}
 use Rattle.certs.specs.Levels.{greater_level}
 use Rattle.std.specs.Arc.{arc_value}
-use Rattle.bb_core.specs.Settlements.{of_live}
+use Rattle.certs.specs.Trees.{of_live}
 use Rattle.certs.specs.declared.level.Level.{Level}
 use Rattle.certs.specs.declared.verdict.Verdict.{Verdict}
 use Rattle.node_work.proofs.LevelLists.{length_live}

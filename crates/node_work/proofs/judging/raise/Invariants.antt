@@ -1,7 +1,7 @@
 use Rattle.std.proofs.Common.{◌≡◌, vec_capacity, length}
 use Rattle.std.specs.Arc.{arc_value}
 use Rattle.scenario_changes.specs.Problems.{problem}
-use Rattle.bb_core.specs.Settlements.{of_live}
+use Rattle.certs.specs.Trees.{of_live}
 use Rattle.node_work.proofs.RaiseLaws.{SoFar}
 use Rattle.node_work.proofs.judging.raise.Given as goal
 

@@ -1,6 +1,6 @@
 use Rattle.std.proofs.Common.{arith, ◌≡◌, ◌≤◌, ap, ◌∙◌, List, length, slice_get}
 use Rattle.certs.specs.declared.level.Level.{Level}
-use Rattle.bb_core.specs.Settlements.{of_live}
+use Rattle.certs.specs.Trees.{of_live}
 use Rattle.node_work.proofs.MadeLaws.{made_kept, made_others}
 use Rattle.node_work.proofs.levels.children_levels.Goals as goal
 

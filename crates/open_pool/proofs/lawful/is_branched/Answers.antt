@@ -11,7 +11,7 @@ returns-then-are_kept-clause-yes c = λ e.
     let hull = simp to_z-of_z at (c.is_hull_split.ensures.yes c.if-not-is_hull_split.false) in
     let same : c.as_slice-raised.result.now ≡ c.args.scratch.now.raised.items = c.as_slice-raised.ensures.value ∙ ap (λ (v : Vec (Option Level) Global). v.items) c.is_hull_split.ensures.same in
     record {
-      live = sym (rw c.deref.ensures at c.all_live.ensures) ∙ c.if-not-all_live.false;
+      live = sym (rw c.deref.ensures at c.are_live.ensures) ∙ c.if-not-are_live.false;
       below = omega (arith, c.columns.ensures.count, ap (λ (m : IntegerModel). length m.columns) c.model.ensures);
       hull = hull;
       left_kept = rw same at (c.are_kept.ensures.yes c.if-are_kept.true);

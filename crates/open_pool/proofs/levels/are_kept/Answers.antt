@@ -1,6 +1,6 @@
 use Rattle.std.proofs.Common.{◌≡◌, slice_index_or, None, sym, ap, ◌∙◌, List, Option}
 use borrow.Author.Count.{below_more}
-use Rattle.bb_core.specs.Settlements.{of_live}
+use Rattle.certs.specs.Trees.{of_live}
 use Rattle.certs.specs.Trees.{kept}
 use Rattle.certs.specs.declared.level.Level.{Level}
 use Rattle.open_pool.proofs.levels.are_kept.Goals as goal

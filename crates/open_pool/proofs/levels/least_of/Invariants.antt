@@ -1,5 +1,5 @@
 use Rattle.std.proofs.Common.{◌≡◌, ◌≤◌, length, drop}
-use Rattle.bb_core.specs.Settlements.{of_live}
+use Rattle.certs.specs.Trees.{of_live}
 use Rattle.open_pool.specs.Marks.{least_live}
 use Rattle.open_pool.proofs.levels.least_of.Given as goal
 

@@ -1,5 +1,0 @@
-use Rattle.open_pool.proofs.SetLemmas.{set_rises}
-use Rattle.open_pool.proofs.stayers.rising.Goals as goal
-
-pub returns : goal.returns
-returns c = set_rises c.args.set c.iter-members.ensures.set
