@@ -11,3 +11,4 @@ pub mod StayerLemmas
 pub mod WideLemmas
 pub mod StartLemmas
 pub mod Examples
+pub mod MemberLaws

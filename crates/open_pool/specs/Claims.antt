@@ -1,5 +1,7 @@
 -- What a claim and a settlement answer.
-use Rattle.std.specs.Prelude.{◌≡◌, ◌<◌, ◌≤◌, ◌+◌, false, true, length}
+use Rattle.std.specs.Prelude.{◌≡◌, ◌<◌, ◌≤◌, ◌+◌, false, true, length, All}
+use Rattle.std.specs.Arc.{arc_value}
+use Rattle.scenario_changes.specs.Problems.{Problem}
 use Rattle.bb_core.specs.Settlements.{Settlement, Outcome, Close, Branch, place_of}
 use Rattle.bb_core.specs.Coverage.{Open, settled, slot_at, marked_as, MaySettle}
 use Rattle.open_pool.specs.Marks.{claimed}
@@ -15,6 +17,13 @@ IsClaim p q (Node w) = (p.stopped ≡ false) × IsNext p.slots w.node × (place_
 IsClaim p q Wait = (p.stopped ≡ false) × HasNone p.slots Open × (HasNone p.slots claimed → ⊥) × (q ≡ p)
 IsClaim p q Done = (p.stopped ≡ false) × HasNone p.slots Open × HasNone p.slots claimed × (q ≡ p)
 IsClaim p q Stopped = (p.stopped ≡ true) × (q ≡ p)
+
+-- a claimed work has an interval for each column, a level for each scenario, and live scenarios of the problem
+abbrev pub FitsProblem : Problem → Claim → Type 0
+FitsProblem p (Node w) = (length (arc_value w.bounds) ≡ p.columns) × (length (arc_value w.levels) ≡ length p.scenarios) × All (λ s. s < length p.scenarios) w.live
+FitsProblem p Wait = Unit {0}
+FitsProblem p Done = Unit {0}
+FitsProblem p Stopped = Unit {0}
 
 abbrev pub IsSplit : Outcome → Type 0
 IsSplit Close = ⊥

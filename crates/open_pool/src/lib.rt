@@ -13,6 +13,7 @@ mod boxes;
 mod judging;
 mod lawful;
 mod levels;
+mod members;
 mod pool;
 mod scan;
 mod scratch;

@@ -1,0 +1,106 @@
+-- A work has a level for each scenario, and its live scenarios have one.
+use Rattle.std.specs.Prelude.{◌≡◌, ◌↔◌, ℕ, zero, suc, ◌+◌, ◌<◌, ◌≤◌, List, [], ◌∷◌, ◌++◌, length, take, slice_get, slice_index_or, flat_map, Bool, true, false, cond, nat_eq, Option, Some, None, IsTrue, All, Contains, refl, ℤ, map}
+use Rattle.std.specs.Cmp.{nat_eq_equiv}
+use Rattle.std.specs.List.{list_any}
+use Rattle.std.proofs.Common.{arith, ap, sym, ◌∙◌, get_or}
+use Rattle.std.proofs.lemmas.Bool.Decides.{nat_tests}
+use Rattle.std.proofs.lemmas.List.Elements.{Contains-get_or}
+use Rattle.std.proofs.lemmas.Map.Views.{Contains-from_any, list_any-from_Contains}
+use Rattle.int_model.specs.Boxes.{Box, below_cut, above_cut}
+use Rattle.int_model.specs.Programs.{Program}
+use Rattle.scenario_changes.specs.Problems.{Problem, root_box}
+use Rattle.certs.specs.Verdicts.{start_level}
+use Rattle.certs.specs.Trees.{Place, root_place, raised, kept, stayers_hull, two_places, children, handed_on, handed, arrivals, IsTree}
+use Rattle.certs.specs.declared.cert.Cert.{Cert}
+use Rattle.certs.specs.declared.level.Level.{Level}
+use Rattle.certs.specs.declared.verdict.Verdict.{Verdict}
+use Rattle.certs.specs.declared.tree.Node.{Node}
+use Rattle.certs.specs.declared.tree.Node.TheVariants.{Rest, Leaf, Split}
+use Rattle.bb_core.specs.Settlements.{of_live}
+use Rattle.bb_core.specs.Coverage.{Slot, placed_of, slot_at}
+use Rattle.open_pool.proofs.LawfulLaws.{length_raised}
+use Rattle.open_pool.proofs.LevelLists.{length_kept, length_live, live_at, list_same}
+
+-- ---- the places of a tree have a level for each scenario
+
+AreLong : ℕ → List Place → Type 0
+AreLong n [] = Unit {0}
+AreLong n (q ∷ qs) = (length q.levels ≡ n) × AreLong n qs
+
+both_long : (n : ℕ) (ps qs : List Place) → AreLong n ps → AreLong n qs → AreLong n (ps ++ qs)
+unfolding AreLong
+both_long n [] qs h g = g
+both_long n (p ∷ ps) qs h g = (h.0, both_long n ps qs h.1 g)
+
+all_long : {X : Type 0} (n : ℕ) (f : X → List Place) → ((x : X) → AreLong n (f x)) → (xs : List X) → AreLong n (flat_map f xs)
+unfolding AreLong
+all_long n f h [] = tt
+all_long n f h (x ∷ xs) = both_long n (f x) (flat_map f xs) (h x) (all_long n f h xs)
+
+handed_long : (p : Problem) (n : ℕ) (e : Node × Place) → AreLong (length p.scenarios) (handed p n e)
+unfolding AreLong
+handed_long p n (Rest, place) = tt
+handed_long p n (Leaf cert verdicts, place) = tt
+handed_long p n (Split cert verdicts stay child column v, place) = by_parts (stayers_hull p place.box cert stay) (raised place.box cert p.scenarios place.levels verdicts) (length_raised place.box cert p.scenarios place.levels verdicts)
+  where
+    by_parts : (hull : Option Box) (levels : Option (List (Option Level))) → ((rs : List (Option Level)) → levels ≡ Some rs → length rs ≡ length p.scenarios) → AreLong (length p.scenarios) (handed_on n child (two_places stay column v hull levels))
+    by_parts None levels h = tt
+    by_parts (Some box) None h = tt
+    by_parts (Some box) (Some rs) h = by_number (nat_eq n child) (nat_eq n (suc child))
+      where
+        many : length (kept stay 0 rs) ≡ length p.scenarios
+        many = length_kept stay 0 rs ∙ h rs refl
+
+        by_number : (a b : Bool) → AreLong (length p.scenarios) (cond a (record { box = below_cut box column v; levels = kept stay 0 rs } ∷ []) (cond b (record { box = above_cut box column v; levels = kept stay 0 rs } ∷ []) []))
+        by_number true b = (many, tt)
+        by_number false true = (many, tt)
+        by_number false false = tt
+
+length-map : {X Y : Type 0} (f : X → Y) (xs : List X) → length (map f xs) ≡ length xs
+length-map f [] = refl
+length-map f (x ∷ xs) = ap suc (length-map f xs)
+
+arrivals_long : (p : Problem) (placed : List (Node × Place)) (n : ℕ) → AreLong (length p.scenarios) (arrivals p placed n)
+unfolding AreLong
+arrivals_long p placed zero = (length-map (λ (s : Program). Some (start_level (root_box p.scenarios) s)) p.scenarios, tt)
+arrivals_long p placed (suc n) = all_long (length p.scenarios) (handed p (suc n)) (handed_long p (suc n)) (take (suc n) placed)
+
+first_long : (n : ℕ) (qs : List Place) (q : Place) → qs ≡ q ∷ [] → AreLong n qs → length q.levels ≡ n
+unfolding AreLong
+first_long n [] q e h = absurd (cc)
+first_long n (r ∷ qs) q e h = let s : r ≡ q = cc in ap (λ (z : Place). length z.levels) (sym s) ∙ h.0
+
+placed_get : (slots : List Slot) (n : ℕ) (t : Slot) → slice_get slots n ≡ Some t → slice_get (placed_of slots) n ≡ Some (t.node, t.place)
+placed_get [] n t e = absurd (cc)
+placed_get (u ∷ slots) zero t e = let s : u ≡ t = cc in ap (λ (z : Slot). Some (z.node, z.place)) s
+placed_get (u ∷ slots) (suc n) t e = placed_get slots n t e
+
+pub place_long : (p : Problem) (slots : List Slot) → IsTree p (placed_of slots) → (n : ℕ) (t : Slot) → slice_get slots n ≡ Some t → length t.place.levels ≡ length p.scenarios
+place_long p slots tree n t e =
+    first_long (length p.scenarios) (arrivals p (placed_of slots) n) t.place (tree.right n t.node t.place (placed_get slots n t e)).arrival (arrivals_long p (placed_of slots) n)
+
+-- ---- the members below a number
+
+all_below : (xs : List ℕ) (n : ℕ) → ((k : ℕ) → Contains xs k → k < n) → All (λ s. s < n) xs
+all_below xs n h i d l = h (get_or xs i d) (Contains-get_or xs i d l)
+
+nat_same : (x y : ℕ) → nat_eq x y ≡ true → x ≡ y
+nat_same x y e = grind (arith, nat_tests, e)
+
+any_same : (xs ys : List ℕ) (k : ℕ) → Contains xs k ↔ Contains ys k → list_any (nat_eq k) xs ≡ list_any (nat_eq k) ys
+any_same xs ys k h = by_tests (list_any (nat_eq k) xs) (list_any (nat_eq k) ys) refl refl
+  where
+    by_tests : (a b : Bool) → list_any (nat_eq k) xs ≡ a → list_any (nat_eq k) ys ≡ b → a ≡ b
+    by_tests true true e g = refl
+    by_tests false false e g = refl
+    by_tests true false e g = sym (list_any-from_Contains nat_eq_equiv k ys (h.0 (Contains-from_any nat_same k xs e))) ∙ g
+    by_tests false true e g = sym e ∙ list_any-from_Contains nat_eq_equiv k xs (h.1 (Contains-from_any nat_same k ys g))
+
+pub members_below-live : (live below : List ℕ) (levels : List Level) → ((k : ℕ) → Contains below k ↔ ((k < length levels) × Contains live k)) → of_live below 0 levels ≡ of_live live 0 levels
+members_below-live live below levels h =
+    list_same (of_live below 0 levels) (of_live live 0 levels) (length_live below 0 levels ∙ sym (length_live live 0 levels))
+    (λ k l. (let small : k < length levels = omega (arith, length_live below 0 levels) in
+    live_at below levels k ∙ ap (λ (b : Bool). cond b (slice_get levels k) None) (any_same below live k (λ c. ((h k).0 c).1, λ c. (h k).1 (small, c))) ∙ sym (live_at live levels k)))
+
+pub members_below-all : (live below : List ℕ) (n : ℕ) → ((k : ℕ) → Contains below k ↔ ((k < n) × Contains live k)) → All (λ s. s < n) below
+members_below-all live below n h = all_below below n (λ k c. ((h k).0 c).0)
