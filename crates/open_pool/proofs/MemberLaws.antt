@@ -1,8 +1,9 @@
 -- A work has a level for each scenario, and its live scenarios have one.
-use Rattle.std.specs.Prelude.{◌≡◌, ◌↔◌, ℕ, zero, suc, ◌+◌, ◌<◌, ◌≤◌, List, [], ◌∷◌, ◌++◌, length, take, slice_get, slice_index_or, flat_map, Bool, true, false, cond, nat_eq, Option, Some, None, IsTrue, All, Contains, refl, ℤ, map}
+use Rattle.std.specs.Prelude.{◌≡◌, ◌↔◌, ℕ, zero, suc, ◌+◌, ◌<◌, ◌≤◌, List, [], ◌∷◌, ◌++◌, length, take, slice_get, slice_index_or, flat_map, ◌⊎◌, Bool, true, false, cond, nat_eq, Option, Some, None, IsTrue, All, Contains, refl, ℤ, map}
 use Rattle.std.specs.Cmp.{nat_eq_equiv}
 use Rattle.std.specs.List.{list_any}
-use Rattle.std.proofs.Common.{arith, ap, sym, ◌∙◌, get_or}
+use Rattle.std.proofs.Common.{arith, ap, sym, ◌∙◌, subst, inl, inr, get_or}
+use native.Mathlib.Decide.{ℕ_discrete}
 use Rattle.std.proofs.lemmas.Bool.Decides.{nat_tests}
 use Rattle.std.proofs.lemmas.List.Elements.{Contains-get_or}
 use Rattle.std.proofs.lemmas.Map.Views.{Contains-from_any, list_any-from_Contains}
@@ -14,9 +15,15 @@ use Rattle.certs.specs.Trees.{Place, root_place, raised, kept, stayers_hull, two
 use Rattle.certs.specs.declared.cert.Cert.{Cert}
 use Rattle.certs.specs.declared.level.Level.{Level}
 use Rattle.certs.specs.declared.verdict.Verdict.{Verdict}
-use Rattle.certs.specs.declared.tree.Node.{Node}
+use Rattle.certs.specs.declared.tree.Node.{Node as TreeNode}
 use Rattle.certs.specs.declared.tree.Node.TheVariants.{Rest, Leaf, Split}
-use Rattle.bb_core.specs.Settlements.{of_live}
+use Rattle.std.specs.Arc.{arc_value}
+use Rattle.bb_core.specs.Settlements.{of_live, place_of}
+use Rattle.bb_core.specs.Shared.{work_of}
+use Rattle.bb_core.specs.declared.work.Work.{Work}
+use Rattle.open_pool.specs.Judged.{AreWide}
+use Rattle.open_pool.specs.Claims.{FitsProblem}
+use Rattle.open_pool.specs.declared.pool.Claim.TheVariants.{Node}
 use Rattle.bb_core.specs.Coverage.{Slot, placed_of, slot_at}
 use Rattle.open_pool.proofs.LawfulLaws.{length_raised}
 use Rattle.open_pool.proofs.LevelLists.{length_kept, length_live, live_at, list_same}
@@ -37,7 +44,7 @@ unfolding AreLong
 all_long n f h [] = tt
 all_long n f h (x ∷ xs) = both_long n (f x) (flat_map f xs) (h x) (all_long n f h xs)
 
-handed_long : (p : Problem) (n : ℕ) (e : Node × Place) → AreLong (length p.scenarios) (handed p n e)
+handed_long : (p : Problem) (n : ℕ) (e : TreeNode × Place) → AreLong (length p.scenarios) (handed p n e)
 unfolding AreLong
 handed_long p n (Rest, place) = tt
 handed_long p n (Leaf cert verdicts, place) = tt
@@ -60,7 +67,7 @@ length-map : {X Y : Type 0} (f : X → Y) (xs : List X) → length (map f xs) �
 length-map f [] = refl
 length-map f (x ∷ xs) = ap suc (length-map f xs)
 
-arrivals_long : (p : Problem) (placed : List (Node × Place)) (n : ℕ) → AreLong (length p.scenarios) (arrivals p placed n)
+arrivals_long : (p : Problem) (placed : List (TreeNode × Place)) (n : ℕ) → AreLong (length p.scenarios) (arrivals p placed n)
 unfolding AreLong
 arrivals_long p placed zero = (length-map (λ (s : Program). Some (start_level (root_box p.scenarios) s)) p.scenarios, tt)
 arrivals_long p placed (suc n) = all_long (length p.scenarios) (handed p (suc n)) (handed_long p (suc n)) (take (suc n) placed)
@@ -104,3 +111,46 @@ members_below-live live below levels h =
 
 pub members_below-all : (live below : List ℕ) (n : ℕ) → ((k : ℕ) → Contains below k ↔ ((k < n) × Contains live k)) → All (λ s. s < n) below
 members_below-all live below n h = all_below below n (λ k c. ((h k).0 c).0)
+
+-- a loop that has come to s
+abbrev pub MembersSoFar : List ℕ → ℕ → List ℕ → Type 0
+MembersSoFar live s members = (k : ℕ) → Contains members k ↔ ((k < s) × Contains live k)
+
+pub members-more : (live members more : List ℕ) (s : ℕ) → MembersSoFar live s members → Contains live s → ((k : ℕ) → Contains more k ↔ ((k ≡ s) ⊎ Contains members k)) → MembersSoFar live (s + 1) more
+members-more live members more s h here m k = (
+  λ c. elim ((m k).0 c) [
+    | inl e ↦ (let small : k < s + 1 = omega arith in small, subst (λ (j : ℕ). Contains live j) (sym e) here)
+    | inr r ↦ (let q = (h k).0 r in let small : k < s + 1 = omega (arith, q.0) in small, ((h k).0 r).1)
+  ],
+  λ q. (m k).1 (elim (ℕ_discrete k s) [
+    | yes e ↦ inl e
+    | no ne ↦ inr ((h k).1 (let small : k < s = omega (arith, q.0, ne) in small, q.1))
+  ]),
+)
+
+pub members-same : (live members : List ℕ) (s : ℕ) → MembersSoFar live s members → (Contains live s → ⊥) → MembersSoFar live (s + 1) members
+members-same live members s h none k = (
+  λ c. (let q = (h k).0 c in let small : k < s + 1 = omega (arith, q.0) in small, ((h k).0 c).1),
+  λ q. elim (ℕ_discrete k s) [
+    | yes e ↦ absurd (none (subst (λ (j : ℕ). Contains live j) e q.1))
+    | no ne ↦ (h k).1 (let small : k < s = omega (arith, q.0, ne) in small, q.1)
+  ],
+)
+
+pub members-none : (live : List ℕ) → MembersSoFar live 0 []
+members-none live k = (λ c. absurd (none_there k c), λ q. absurd (omega (arith, q.0)))
+  where
+    none_there : (k : ℕ) → Contains [] k → ⊥
+    none_there k c = absurd (let none : c.0 < 0 = c.1 in omega (arith, none))
+
+-- the place of a work whose live scenarios are those that have a level
+pub members-place : (box copy : Box) (live below : List ℕ) (levels others : List Level) → copy ≡ box → others ≡ levels → MembersSoFar live (length levels) below → ◌≡◌ {A = Place} (record { box = copy; levels = of_live below 0 others }) (record { box = box; levels = of_live live 0 levels })
+members-place box copy live below levels others e g h =
+    ap (λ (b : Box). let q : Place = record { box = b; levels = of_live below 0 others } in q) e ∙ ap (λ (ls : List (Option Level)). let q : Place = record { box = box; levels = ls } in q) (ap (of_live below 0) g ∙ members_below-live live below levels h)
+
+-- a work of a node's place fits the problem
+pub fits-problem : (p : Problem) (slots : List Slot) (n : ℕ) (t : Slot) (w : Work) → IsTree p (placed_of slots) → AreWide p.columns slots → slice_get slots n ≡ Some t → place_of (work_of w) ≡ t.place → All (λ s. s < length (arc_value w.levels)) w.live → FitsProblem p (Node w)
+fits-problem p slots n t w tree wide found same live =
+    let box : length (arc_value w.bounds) ≡ p.columns = ap (λ (q : Place). length q.box) same ∙ wide n t found in
+    let levels : length (arc_value w.levels) ≡ length p.scenarios = sym (length_live w.live 0 (arc_value w.levels)) ∙ (ap (λ (q : Place). length q.levels) same ∙ place_long p slots tree n t found) in
+    (box, levels, subst (λ (m : ℕ). All (λ s. s < m) w.live) levels live)

@@ -1,5 +1,5 @@
-use Rattle.std.proofs.Common.{◌↔◌, ℕ, ◌<◌, Contains}
+use Rattle.open_pool.proofs.MemberLaws.{MembersSoFar}
 use Rattle.open_pool.proofs.members.members_below.Given as goal
 
 abbrev pub invariant-loop-s : goal.invariant-loop-s
-invariant-loop-s l = (k : ℕ) → Contains l.members k ↔ ((k < l.s) × Contains l.live k)
+invariant-loop-s l = MembersSoFar l.live l.s l.members

@@ -8,6 +8,8 @@ use Rattle.open_pool.specs.PoolParts.{pooled}
 use Rattle.bb_core.specs.Shared.{work_of}
 use Rattle.open_pool.proofs.PoolLaws.{index-any, slot-got}
 use Rattle.open_pool.proofs.SoundLaws.{sound-marked}
+use Rattle.open_pool.proofs.MemberLaws.{fits-problem}
+use Rattle.scenario_changes.specs.Problems.{problem}
 use Rattle.open_pool.proofs.pool.Pool.claim.Goals.{then-has_claimed, else-has_claimed}
 use Rattle.open_pool.proofs.pool.Pool.claim.Goals as goal
 
@@ -44,3 +46,11 @@ returns-after-has_claimed-clause-ok c =
       | then-has_claimed w ↦ rw w.result-is (stays, none, rw c.as_slice-slots.ensures.value at w.if-has_claimed.ensures, refl)
       | else-has_claimed w ↦ rw w.result-is (stays, none, rw c.as_slice-slots.ensures.value at w.if-has_claimed.ensures, refl)
     ])
+
+pub returns-in_ok-work-in-Some-clause-fits : goal.returns-in_ok-work-in-Some-clause-fits
+returns-in_ok-work-in-Some-clause-fits c =
+    let next : IsNext c.self.inside.slots.items c.in-Some.n = rw c.as_slice.ensures.value at c.in-Some.ensures in
+    let at_n = slot-got c.self.inside.slots.items c.in-Some.n next.open_here.slot next.open_here.found in
+    let here : c.index_mut-slot.result.now ≡ slot_at c.self.inside.slots.items c.in-Some.n = c.index_mut-slot.ensures.value ∙ index-any c.self.inside.slots.items c.in-Some.n c.index_mut-slot.result.now _ at_n.0 in
+    let place : place_of (work_of c.in_ok-work-in-Some.work) ≡ next.open_here.slot.place = (c.in_ok-work-in-Some.ensures.work).0 ∙ ap (λ (t : Slot). t.place) (here ∙ at_n.1) in
+    rw (← c.self.view_is) (fits-problem (problem c.self.inside.problem.now) c.self.inside.slots.items c.in-Some.n next.open_here.slot c.in_ok-work-in-Some.work c.self.invariant.covered.tree c.self.invariant.wide next.open_here.found place c.in_ok-work-in-Some.ensures.live)
