@@ -6,7 +6,10 @@
 
 mod claims;
 mod run;
-mod turn;
+mod turning;
 
 pub use run::{Ended, run_alone};
-pub use turn::turn;
+pub use turning::turn;
+
+#[cfg(test)]
+mod tests;
