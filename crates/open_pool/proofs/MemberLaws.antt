@@ -24,7 +24,9 @@ use Rattle.bb_core.specs.declared.work.Work.{Work}
 use Rattle.open_pool.specs.Judged.{AreWide}
 use Rattle.open_pool.specs.Claims.{FitsProblem}
 use Rattle.open_pool.specs.declared.pool.Claim.TheVariants.{Node}
-use Rattle.bb_core.specs.Coverage.{Slot, placed_of, slot_at}
+use Rattle.bb_core.specs.Coverage.{Slot, Open, Closed, placed_of, slot_at}
+use Rattle.open_pool.specs.Pooled.{HasNone}
+use Rattle.open_pool.proofs.PoolLaws.{slot-got}
 use Rattle.open_pool.proofs.LawfulLaws.{length_raised}
 use Rattle.open_pool.proofs.LevelLists.{length_kept, length_live, live_at, list_same}
 
@@ -154,3 +156,13 @@ fits-problem p slots n t w tree wide found same live =
     let box : length (arc_value w.bounds) ≡ p.columns = ap (λ (q : Place). length q.box) same ∙ wide n t found in
     let levels : length (arc_value w.levels) ≡ length p.scenarios = sym (length_live w.live 0 (arc_value w.levels)) ∙ (ap (λ (q : Place). length q.levels) same ∙ place_long p slots tree n t found) in
     (box, levels, subst (λ (m : ℕ). All (λ s. s < m) w.live) levels live)
+
+-- where no node is open or claimed, each is closed
+pub closed_all : (slots : List Slot) → HasNone slots Open → ((n : ℕ) → n < length slots → ((slot_at slots n).mark ≡ Open) ⊎ ((slot_at slots n).mark ≡ Closed)) → (n : ℕ) (t : Slot) → slice_get slots n ≡ Some t → t.mark ≡ Closed
+closed_all slots none marks n t e =
+    let at_n = slot-got slots n t e in
+    let same : (slot_at slots n).mark ≡ t.mark = ap (λ (u : Slot). u.mark) at_n.1 in
+    elim (marks n at_n.0) [
+      | inl m ↦ absurd (none n t e (sym same ∙ m))
+      | inr m ↦ sym same ∙ m
+    ]

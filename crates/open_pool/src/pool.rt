@@ -15,7 +15,7 @@ ghost use Rattle.open_pool.specs.Marks.{claimed};
 ghost use Rattle.open_pool.specs.Judged.{IsScratch, AreWide};
 ghost use Rattle.open_pool.specs.Pooled.{begun, is_claimed, reopened, nodes_of};
 ghost use Rattle.open_pool.specs.Pooled as pooled;
-ghost use Rattle.open_pool.specs.Claims.{IsClaim, FitsProblem, IsSettled, IsAnswer, AreShort, IsSplit};
+ghost use Rattle.open_pool.specs.Claims.{IsClaim, ClosedIfDone, FitsProblem, IsSettled, IsAnswer, AreShort, IsSplit};
 ghost use Rattle.open_pool.specs.Ends.{ended};
 
 use crate::lawful::passes;
@@ -130,6 +130,7 @@ impl<'p> Pool<'p> {
     pub fn claim(&mut self) -> Result<Claim, AllocError>
         ensures ok { IfOk result (λ c. IsClaim self.old self.new c) }
         ensures fits { IfOk result (FitsProblem self.old.problem) }
+        ensures closed { IfOk result (ClosedIfDone self.old.slots) }
         ensures err { OnErr result (self.new ≡ self.old) }
     {
         if self.stopped {

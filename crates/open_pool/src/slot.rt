@@ -1,5 +1,5 @@
 // A place of the pool: a node, where it stands, and its mark.
-ghost use Rattle.std.specs.Prelude.{◌≡◌, ◌≤◌, ◌<◌, length, true, false, All, IfOk, IsTrue};
+ghost use Rattle.std.specs.Prelude.{◌≡◌, ◌⊎◌, ◌≤◌, ◌<◌, length, true, false, All, IfOk, IsTrue};
 ghost use Rattle.std.specs.Arc.{arc_value};
 ghost use Rattle.bb_core.specs.Settlements.{place_of, of_live};
 ghost use Rattle.bb_core.specs.Coverage.{Closed, Open, open_at};
@@ -100,6 +100,7 @@ impl Slot {
     pub(crate) fn is_claimed(&self) -> bool
         ensures yes { result ≡ true → self.now.mark ≡ claimed }
         ensures no { result ≡ false → self.now.mark ≡ claimed → ⊥ }
+        ensures other { result ≡ false → (self.now.mark ≡ Open) ⊎ (self.now.mark ≡ Closed) }
     {
         self.mark == Mark::Claimed
     }
