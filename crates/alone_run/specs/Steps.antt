@@ -7,7 +7,7 @@ use Rattle.certs.specs.Levels.{cap_level, lesser_level}
 use Rattle.certs.specs.Claims.{bound_of, claim_of}
 use Rattle.certs.specs.declared.level.Level.{Level}
 use Rattle.certs.specs.declared.level.Level.TheVariants.{Inf}
-use Rattle.bb_core.specs.Coverage.{Open, placed_of}
+use Rattle.bb_core.specs.Coverage.{Slot, Closed, placed_of}
 use Rattle.atomic_table.specs.Seated.{TableId}
 use Rattle.incumbent_words.specs.Codes.{code_of, IsValue}
 use Rattle.incumbent_words.specs.Rule.{code_at, HasAll}
@@ -30,16 +30,19 @@ pub record IsReady (problem : Scenarios) (table : TableId) (q : Pooled) (f : Fou
 abbrev pub weight : Pooled → ℕ
 weight q = 2 * (q.nodes - length q.slots) + count_open q.slots
 
+abbrev pub AreClosed : List Slot → Type 0
+AreClosed slots = (n : ℕ) (t : Slot) → slice_get slots n ≡ Some t → t.mark ≡ Closed
+
 -- a node was settled
 pub record GoesOn (before now : Pooled) : Type 0 where
   pub nodes : now.nodes ≡ before.nodes
   pub stopped : now.stopped ≡ before.stopped
   pub less : weight now < weight before
 
--- no node is open, or the pool is stopped: it was before, or there is no room for two more nodes
+-- each node is closed, or the pool is stopped: it was before, or there is no room for two more nodes
 pub record IsOver (before now : Pooled) : Type 0 where
   pub nodes : now.nodes ≡ before.nodes
-  pub over : HasNone now.slots Open ⊎ ((before.stopped ≡ true) ⊎ (now.nodes < length now.slots + 2))
+  pub over : AreClosed now.slots ⊎ ((before.stopped ≡ true) ⊎ (now.nodes < length now.slots + 2))
 
 -- the cap becomes the lesser of itself and the value of this code
 pub record IsLowered (before now : Level) (code : ℕ) : Type 0 where

@@ -27,9 +27,8 @@ pub record IsProbed (p : Problem) (w : Work) (cert : Cert) (verdicts : List Verd
 
 -- the values of these codes, None for that of no value
 pub record AreCuts (caps : List ℕ) (cuts : List (Option ℤ)) : Type 0 where
-  pub count : length cuts ≡ length caps
-  pub codes : (k : ℕ) → k < length caps → code_of (slice_index_or cuts k None) ≡ code_at caps k
-  pub limits : (k : ℕ) → k < length caps → IfSome (slice_index_or cuts k None) IsValue
+  pub codes : (k : ℕ) → code_of (slice_index_or cuts k None) ≡ code_at caps k
+  pub limits : (k : ℕ) → IfSome (slice_index_or cuts k None) IsValue
 
 -- a lawful settlement of the work in which exactly the live scenarios stay whose raised level is below the note's cap, and a
 -- note of the finder. With the count and all numbers the note's caps of the live scenarios are the finder's best values
@@ -50,15 +49,16 @@ pub record IsTurn (p : Problem) (w : Work) (f : Found) (s : Settlement) (note : 
 pub record HasLooked (before now : Found) : Type 0 where
   pub same : IsSameHolder before now
   pub offers : now.seat.view.offers ≡ before.seat.view.offers
+  pub wide : length now.seat.view.caps ≡ length before.seat.view.caps
   pub caps : (k : ℕ) → code_at now.seat.view.caps k ≤ code_at before.seat.view.caps k
 
 -- the caps of these scenarios are the best values
 abbrev pub KnowsBest : Found → List ℕ → Type 0
-KnowsBest f live = (k : ℕ) → Contains live k → code_at f.seat.view.caps k ≡ code_at f.seat.view.offers k
+KnowsBest f live = (k : ℕ) → Contains live k → k < length f.seat.view.caps → code_at f.seat.view.caps k ≡ code_at f.seat.view.offers k
 
 -- the cap of each point's scenario is at most the point's value
 abbrev pub AreOffered : Found → List (ℕ × List ℤ) → Type 0
-AreOffered f found = (i k : ℕ) (x : List ℤ) → slice_get found i ≡ Some (k, x) → code_at f.seat.view.caps k ≤ value_code f.problem k x
+AreOffered f found = (i k : ℕ) (x : List ℤ) → slice_get found i ≡ Some (k, x) → k < length f.seat.view.caps → code_at f.seat.view.caps k ≤ value_code f.problem k x
 
 -- of the points those whose scenario is below a number
 pub record ArePointsBelow (count : ℕ) (all some : List (ℕ × List ℤ)) : Type 0 where

@@ -1,5 +1,5 @@
 // The claims of a run.
-ghost use Rattle.std.specs.Prelude.{◌≡◌, IfOk, option_map};
+ghost use Rattle.std.specs.Prelude.{◌≡◌, IfOk, MatchOption};
 ghost use Rattle.scenario_changes.specs.Problems.{problem as posed};
 ghost use Rattle.certs.specs.Claims.{claim_of};
 ghost use Rattle.alone_run.specs.Steps.{AreClaims};
@@ -33,7 +33,7 @@ pub(crate) fn claims(
 
 // The claim that a best point with its value and a bound allow.
 fn claim(alloc: Global, best: Option<(&[i32], i64)>, bound: Level) -> Result<Answer, AllocError>
-    ensures { IfOk result (λ a. a ≡ claim_of (option_map (λ r. (r.0.now, r.1)) best) bound) }
+    ensures { IfOk result (λ a. MatchOption best.entry (a ≡ claim_of None bound) (λ r. a ≡ claim_of (Some (r.0.now, r.1)) bound)) }
 {
     match best {
         None => Ok(without_point(bound)),

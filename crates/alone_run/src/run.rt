@@ -110,7 +110,10 @@ fn lower_caps(problem: &Problem, pool: &mut Pool<'_>, note: &WordSeat)
     requires words { note.now.table.words ≡ length (posed problem.now).scenarios }
     ensures same { pool.new ≡ record pool.old { caps = pool.new.caps } }
     ensures caps { AreLowered pool.old.caps pool.new.caps note.now.view.caps }
+    ensures count { length pool.old.caps ≡ length (posed problem.now).scenarios }
 {
+    // This call tells that there is a cap for each scenario.
+    pool.is_covered();
     for s in 0..problem.count() {
         if let Some(value) = note.cap(s) {
             pool.lower(s, value);

@@ -60,7 +60,7 @@ fn look_if(
     requires scenario { s < scenario_count finder.old.problem }
     ensures looked { HasLooked finder.old finder.new }
     ensures others { (k : ℕ) → (k ≡ s → ⊥) → code_at finder.new.seat.view.caps k ≡ code_at finder.old.seat.view.caps k }
-    ensures known { HasAll finder.old.seat.view → Contains live s → code_at finder.new.seat.view.caps s ≡ code_at finder.old.seat.view.offers s }
+    ensures known { HasAll finder.old.seat.view → Contains live s → s < length finder.old.seat.view.caps → code_at finder.new.seat.view.caps s ≡ code_at finder.old.seat.view.offers s }
 {
     if live.contains(s) {
         finder.look(words, s)
@@ -134,7 +134,9 @@ fn caps_of(
     note: &WordSeat,
 ) -> Result<Vec<Option<i64>>, AllocError>
     requires { note.now.table.words ≡ length (posed problem.now).scenarios }
-    ensures { IfOk result (λ cuts. AreCuts note.now.view.caps cuts.items) }
+    ensures cuts { IfOk result (λ cuts. AreCuts note.now.view.caps cuts.items) }
+    ensures count { IfOk result (λ cuts. length cuts.items ≡ length (posed problem.now).scenarios) }
+    ensures wide { length note.now.view.caps ≡ length (posed problem.now).scenarios }
 {
     let _width = note.width();
     let mut cuts = Vec::new(alloc);
