@@ -201,7 +201,7 @@ settle_claimed p slots caps s h = ap (λ (t : Slot). t.mark) (slot-got slots s.w
 pub settle_place : (p : Problem) (slots : List Slot) (caps : List Level) (s : Settlement) → MaySettle p slots caps claimed s → (slot_at slots s.work.node).place ≡ place_of s.work
 settle_place p slots caps s h = ap (λ (t : Slot). t.place) (slot-got slots s.work.node h.held.slot h.held.found).1 ∙ h.its_work
 
-length_raised : (box : Box) (cert : Cert) (ss : List Program) (ls : List (Option Level)) (vs : List Verdict) (rs : List (Option Level)) → raised box cert ss ls vs ≡ Some rs → length rs ≡ length ss
+pub length_raised : (box : Box) (cert : Cert) (ss : List Program) (ls : List (Option Level)) (vs : List Verdict) (rs : List (Option Level)) → raised box cert ss ls vs ≡ Some rs → length rs ≡ length ss
 length_raised box cert [] ls [] rs e = let w : [] ≡ rs = cc in ap length (sym w)
 length_raised box cert [] ls (v ∷ vs) rs e = absurd (cc)
 length_raised box cert (s ∷ ss) [] vs rs e = absurd (cc)

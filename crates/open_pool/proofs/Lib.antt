@@ -8,3 +8,4 @@ pub mod BoxLemmas
 pub mod WideLemmas
 pub mod StartLemmas
 pub mod Examples
+pub mod MemberLaws

@@ -12,6 +12,7 @@
 mod boxes;
 mod lawful;
 mod levels;
+mod members;
 mod pool;
 mod scan;
 mod scratch;

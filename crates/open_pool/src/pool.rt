@@ -1,5 +1,6 @@
 // The pool of open nodes.
 ghost use Rattle.std.specs.Prelude.{◌≡◌, ◌<◌, ◌≤◌, ◌+◌, ℕ, true, false, length, map, vec_capacity, slice_set, slice_index_or, Some, IfOk, OnErr};
+ghost use Rattle.scenario_changes.specs.Problems.{AreWithin};
 ghost use Rattle.scenario_changes.specs.Problems as problems;
 ghost use Rattle.certs.specs.Claims.{bound_of};
 ghost use Rattle.certs.specs.Trees.{dropped};
@@ -7,13 +8,13 @@ ghost use Rattle.certs.specs.Levels.{cap_level, lesser_level, LevelFits};
 ghost use Rattle.certs.specs.declared.level.Level.TheVariants.{Value, Inf};
 ghost use Rattle.bb_core.specs.Settlements.{place_of};
 ghost use Rattle.bb_core.specs.Coverage as coverage;
-ghost use Rattle.bb_core.specs.Coverage.{slot_at, LevelsAreBounds, NothingIsLost, settled, placed_of, MaySettle};
+ghost use Rattle.bb_core.specs.Coverage.{Covers, slot_at, LevelsAreBounds, NothingIsLost, settled, placed_of, MaySettle};
 ghost use Rattle.bb_core.specs.Shared.{settlement_of, outcome_of, work_of, stay_of};
 ghost use Rattle.open_pool.specs.Marks.{claimed};
 ghost use Rattle.open_pool.specs.Judged.{IsScratch, AreWide};
 ghost use Rattle.open_pool.specs.Pooled.{begun, is_claimed, reopened, nodes_of};
 ghost use Rattle.open_pool.specs.Pooled as pooled;
-ghost use Rattle.open_pool.specs.Claims.{IsClaim, IsSettled, IsAnswer, AreShort, IsSplit};
+ghost use Rattle.open_pool.specs.Claims.{IsClaim, ClosedIfDone, FitsProblem, IsSettled, IsAnswer, AreShort, IsSplit};
 ghost use Rattle.open_pool.specs.Ends.{ended};
 
 use crate::lawful::passes;
@@ -127,6 +128,8 @@ impl<'p> Pool<'p> {
     /// memory; the pool is then as it was.
     pub fn claim(&mut self) -> Result<Claim, AllocError>
         ensures ok { IfOk result (λ c. IsClaim self.old self.new c) }
+        ensures fits { IfOk result (FitsProblem self.old.problem) }
+        ensures closed { IfOk result (ClosedIfDone self.old.slots) }
         ensures err { OnErr result (self.new ≡ self.old) }
     {
         if self.stopped {
@@ -297,6 +300,16 @@ impl<'p> Pool<'p> {
     /// open or claimed node where the scenario is live. The call does nothing.
     pub fn nothing_is_lost(&self)
         ensures { NothingIsLost self.now.problem self.now.slots self.now.caps }
+    {
+        let _ = &self.stopped;
+    }
+
+    /// The nodes are a search tree whose closed ends reach the caps, and there is a cap for each scenario. The
+    /// call does nothing; its contract says what the type keeps.
+    pub fn is_covered(&self)
+        ensures limits { AreWithin self.now.problem }
+        ensures covered { Covers self.now.problem self.now.slots self.now.caps }
+        ensures caps { length self.now.caps ≡ length self.now.problem.scenarios }
     {
         let _ = &self.stopped;
     }

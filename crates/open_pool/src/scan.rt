@@ -1,7 +1,7 @@
 // Scans over a pool's nodes.
-ghost use Rattle.std.specs.Prelude.{◌≡◌, ◌<◌, ◌≤◌, true, false, length, IfSome, IsTrue, MatchBool, MatchOption};
+ghost use Rattle.std.specs.Prelude.{◌≡◌, ◌⊎◌, ◌<◌, ◌≤◌, ℕ, true, false, length, IfSome, IsTrue, MatchBool, MatchOption};
 ghost use Rattle.certs.specs.Levels.{level_le};
-ghost use Rattle.bb_core.specs.Coverage.{Open, slot_at};
+ghost use Rattle.bb_core.specs.Coverage.{Closed, Open, slot_at};
 ghost use Rattle.open_pool.specs.Ends.{waiting_bound};
 ghost use Rattle.open_pool.specs.Marks.{claimed, least_live};
 ghost use Rattle.open_pool.specs.Pooled.{HasNone, IsNext};
@@ -46,9 +46,10 @@ fn is_better(slots: &[Slot], best: Option<u32>, n: usize) -> bool
     }
 }
 
-/// Whether some node is claimed.
+/// Whether some node is claimed. Where none is, each is open or closed.
 pub(crate) fn has_claimed(slots: &[Slot]) -> bool
-    ensures { MatchBool result (HasNone slots.now claimed → ⊥) (HasNone slots.now claimed) }
+    ensures claimed { MatchBool result (HasNone slots.now claimed → ⊥) (HasNone slots.now claimed) }
+    ensures others { result ≡ false → (n : ℕ) → n < length slots.now → ((slot_at slots.now n).mark ≡ Open) ⊎ ((slot_at slots.now n).mark ≡ Closed) }
 {
     for n in 0..slots.len() {
         let slot = &slots[n];

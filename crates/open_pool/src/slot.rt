@@ -1,5 +1,5 @@
 // A place of the pool: a node, where it stands, and its mark.
-ghost use Rattle.std.specs.Prelude.{◌≡◌, ◌≤◌, length, true, false, IfOk, IsTrue};
+ghost use Rattle.std.specs.Prelude.{◌≡◌, ◌⊎◌, ◌≤◌, ◌<◌, length, true, false, All, IfOk, IsTrue};
 ghost use Rattle.std.specs.Arc.{arc_value};
 ghost use Rattle.bb_core.specs.Settlements.{place_of};
 ghost use Rattle.certs.specs.Trees.{of_live};
@@ -10,6 +10,7 @@ ghost use Rattle.open_pool.specs.Ends.{waiting_level};
 
 use crate::boxes::is_same_box;
 use crate::levels::{are_same, least_of};
+use crate::members::members_below;
 use bb_core::{Cuts, Hint, Work};
 use certs::{Level, Levels, Node, live_level};
 use int_model::PointBox;
@@ -100,6 +101,7 @@ impl Slot {
     pub(crate) fn is_claimed(&self) -> bool
         ensures yes { result ≡ true → self.now.mark ≡ claimed }
         ensures no { result ≡ false → self.now.mark ≡ claimed → ⊥ }
+        ensures other { result ≡ false → (self.now.mark ≡ Open) ⊎ (self.now.mark ≡ Closed) }
     {
         self.mark == Mark::Claimed
     }
@@ -130,14 +132,16 @@ impl Slot {
     /// shared. Want of memory leaves the place as it was, with its hint.
     pub(crate) fn work(&mut self, alloc: Global, node: u32) -> Result<Work, AllocError>
         ensures work { IfOk result (λ w. (place_of (work_of w) ≡ self.old.place) × (w.node ≡ node)) }
+        ensures live { IfOk result (λ w. All (λ s. s < length (arc_value w.levels)) w.live) }
         ensures same { self.new ≡ self.old }
     {
         let bounds = Arc::try_clone(&self.bounds)?;
         let levels = Arc::try_clone(&self.levels)?;
+        let live = members_below(self.live, self.levels.len());
         Ok(Work {
             node,
             bounds,
-            live: self.live,
+            live,
             levels,
             hint: self.hint.take(),
             cuts: Cuts::from_vec(Vec::new(alloc)),

@@ -8,6 +8,8 @@ use Rattle.open_pool.specs.PoolParts.{pooled}
 use Rattle.bb_core.specs.Shared.{work_of}
 use Rattle.open_pool.proofs.PoolLaws.{index-any, slot-got}
 use Rattle.open_pool.proofs.SoundLaws.{sound-marked}
+use Rattle.open_pool.proofs.MemberLaws.{fits-problem, closed_all}
+use Rattle.scenario_changes.specs.Problems.{problem}
 use Rattle.open_pool.proofs.pool.Pool.claim.Goals.{then-has_claimed, else-has_claimed}
 use Rattle.open_pool.proofs.pool.Pool.claim.Goals as goal
 
@@ -41,6 +43,22 @@ returns-after-has_claimed-clause-ok c =
     let none : HasNone c.self.inside.slots.items Open = rw c.as_slice.ensures.value at c.in-None.ensures in
     let stays : c.self.inside.stopped ≡ false = c.if-self.false in
     rw (← c.self.view_is) (elim c.if-has_claimed.branch [
-      | then-has_claimed w ↦ rw w.result-is (stays, none, rw c.as_slice-slots.ensures.value at w.if-has_claimed.ensures, refl)
-      | else-has_claimed w ↦ rw w.result-is (stays, none, rw c.as_slice-slots.ensures.value at w.if-has_claimed.ensures, refl)
+      | then-has_claimed w ↦ rw w.result-is (stays, none, rw c.as_slice-slots.ensures.value at w.if-has_claimed.ensures.claimed, refl)
+      | else-has_claimed w ↦ rw w.result-is (stays, none, rw c.as_slice-slots.ensures.value at w.if-has_claimed.ensures.claimed, refl)
+    ])
+
+pub returns-in_ok-work-in-Some-clause-fits : goal.returns-in_ok-work-in-Some-clause-fits
+returns-in_ok-work-in-Some-clause-fits c =
+    let next : IsNext c.self.inside.slots.items c.in-Some.n = rw c.as_slice.ensures.value at c.in-Some.ensures in
+    let at_n = slot-got c.self.inside.slots.items c.in-Some.n next.open_here.slot next.open_here.found in
+    let here : c.index_mut-slot.result.now ≡ slot_at c.self.inside.slots.items c.in-Some.n = c.index_mut-slot.ensures.value ∙ index-any c.self.inside.slots.items c.in-Some.n c.index_mut-slot.result.now _ at_n.0 in
+    let place : place_of (work_of c.in_ok-work-in-Some.work) ≡ next.open_here.slot.place = (c.in_ok-work-in-Some.ensures.work).0 ∙ ap (λ (t : Slot). t.place) (here ∙ at_n.1) in
+    rw (← c.self.view_is) (fits-problem (problem c.self.inside.problem.now) c.self.inside.slots.items c.in-Some.n next.open_here.slot c.in_ok-work-in-Some.work c.self.invariant.covered.tree c.self.invariant.wide next.open_here.found place c.in_ok-work-in-Some.ensures.live)
+
+pub returns-after-has_claimed-clause-closed : goal.returns-after-has_claimed-clause-closed
+returns-after-has_claimed-clause-closed c =
+    let none : HasNone c.self.inside.slots.items Open = rw c.as_slice.ensures.value at c.in-None.ensures in
+    rw (← c.self.view_is) (elim c.if-has_claimed.branch [
+      | then-has_claimed w ↦ rw w.result-is tt
+      | else-has_claimed w ↦ rw w.result-is (closed_all c.self.inside.slots.items none (rw c.as_slice-slots.ensures.value at (w.if-has_claimed.ensures.others refl)))
     ])

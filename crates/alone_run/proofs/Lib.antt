@@ -1,0 +1,5 @@
+pub mod CodeOrder
+pub mod BestLaws
+pub mod TurnLaws
+pub mod StepLaws
+pub mod RunLaws
