@@ -17,6 +17,7 @@ use Rattle.certs.specs.declared.level.Level.{Level}
 use Rattle.certs.specs.declared.level.Level.TheVariants.{Value, Inf}
 use Rattle.certs.proofs.TreeLaws.{dropped_at}
 use Rattle.bb_core.specs.Settlements as made
+use Rattle.certs.specs.Trees.{of_live}
 use Rattle.bb_core.specs.Settlements.{place_of, recorded}
 use Rattle.bb_core.specs.Shared.{settlement_of, outcome_of, work_of, stay_of}
 use Rattle.bb_core.specs.declared.work.Outcome.{Outcome}
@@ -221,11 +222,11 @@ free_set slots n u t free not i z e m =
 
 new_free : (o : made.Outcome) → HasNone (new_slots o) claimed
 new_free made.Close i z e m = absurd (cc)
-new_free (made.Branch stay column v left right ls rs) zero z e m = let w : Open ≡ claimed = ap (λ (t : Slot). t.mark) (first (open_at left (made.of_live stay 0 ls)) z e) ∙ m in absurd (cc)
+new_free (made.Branch stay column v left right ls rs) zero z e m = let w : Open ≡ claimed = ap (λ (t : Slot). t.mark) (first (open_at left (of_live stay 0 ls)) z e) ∙ m in absurd (cc)
   where
     first : (a b : Slot) → ◌≡◌ {A = Option Slot} (Some a) (Some b) → a ≡ b
     first a b q = cc
-new_free (made.Branch stay column v left right ls rs) (suc zero) z e m = let w : Open ≡ claimed = ap (λ (t : Slot). t.mark) (first (open_at right (made.of_live stay 0 rs)) z e) ∙ m in absurd (cc)
+new_free (made.Branch stay column v left right ls rs) (suc zero) z e m = let w : Open ≡ claimed = ap (λ (t : Slot). t.mark) (first (open_at right (of_live stay 0 rs)) z e) ∙ m in absurd (cc)
   where
     first : (a b : Slot) → ◌≡◌ {A = Option Slot} (Some a) (Some b) → a ≡ b
     first a b q = cc

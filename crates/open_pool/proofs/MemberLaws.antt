@@ -29,7 +29,7 @@ use Rattle.bb_core.specs.Coverage.{Slot, Open, Closed, placed_of, slot_at}
 use Rattle.open_pool.specs.Pooled.{HasNone}
 use Rattle.open_pool.proofs.PoolLaws.{slot-got}
 use Rattle.open_pool.proofs.LawfulLaws.{length_raised}
-use Rattle.open_pool.proofs.LevelLists.{length_kept, length_live, live_at, list_same}
+use Rattle.certs.proofs.LevelLists.{length_kept, length_live, live_at, list_same}
 
 -- ---- the places of a tree have a level for each scenario
 

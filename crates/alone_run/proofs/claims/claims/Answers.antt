@@ -16,7 +16,7 @@ loop-s-preserved c =
     let f = c.args.finder.now in
     let s : ℕ = c.loop-s.s in
     let a : Answer = c.in_ok-claim.field-0 in
-    let bound : c.end_level-bound.result ≡ bound_of p (placed_of q.slots) s = c.end_level-bound.ensures ∙ ap (λ (r : Problem). bound_of r (placed_of q.slots) s) c.requires.pool in
+    let bound : c.end_level-bound.result ≡ bound_of p (placed_of q.slots) s = c.end_level-bound.ensures.value ∙ ap (λ (r : Problem). bound_of r (placed_of q.slots) s) c.requires.pool in
     let is : a ≡ claim_of (best_of f s) (bound_of p (placed_of q.slots) s) = claims_more (λ r. r.0.now) (λ r. r.1) p q f s a c.end_level-bound.result c.best.result c.best.ensures.point c.best.ensures.value c.in_ok-claim.ensures bound in
     let pushed : c.push.new.self.items ≡ c.loop-s.answers.items ++ a ∷ [] = c.in_ok-push.ensures.items in
     record {
