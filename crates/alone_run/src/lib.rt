@@ -10,6 +10,3 @@ mod turning;
 
 pub use run::{Ended, run_alone};
 pub use turning::turn;
-
-#[cfg(test)]
-mod tests;

@@ -50,12 +50,7 @@ pub fn turn(
 }
 
 // Reads the word of a scenario if it is live.
-fn look_if(
-    words: &Words,
-    finder: &mut Finder<'_>,
-    live: LiveSet,
-    s: u32,
-) -> Option<i64>
+fn look_if(words: &Words, finder: &mut Finder<'_>, live: LiveSet, s: u32) -> Option<i64>
     requires table { finder.old.seat.table ≡ words.now }
     requires scenario { s < scenario_count finder.old.problem }
     ensures looked { HasLooked finder.old finder.new }
