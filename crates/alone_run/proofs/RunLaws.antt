@@ -201,14 +201,14 @@ module _ (p : Problem) (begun : Pooled) (first : Found) (q : Pooled) (f : Found)
 
 -- ---- a claim more
 
-claim_is : {X : Type 0} (x : X → List ℤ) (v : X → ℤ) (s : Program) (point : Option (List ℤ)) (b : Level) (a : Answer) (best : Option X) → MatchOption best (point ≡ None) (λ r. point ≡ Some (x r)) → MatchOption best (Unit {0}) (λ r. HasValue s (x r) (v r)) → MatchOption best (a ≡ claim_of None b) (λ r. a ≡ claim_of (Some (x r, v r)) b) → a ≡ claim_of (with_value s point) b
-claim_is x v s point b a None p q e = e ∙ ap (λ (o : Option (List ℤ)). claim_of (with_value s o) b) (sym p)
-claim_is x v s point b a (Some r) p q e =
+claim_is : {X : Type 0} (x : X → List ℤ) (v : X → ℤ) (s : Program) (kept : Option (List ℤ)) (b : Level) (a : Answer) (best : Option X) → MatchOption best (kept ≡ None) (λ r. kept ≡ Some (x r)) → MatchOption best (Unit {0}) (λ r. HasValue s (x r) (v r)) → MatchOption best (a ≡ claim_of None b) (λ r. a ≡ claim_of (Some (x r, v r)) b) → a ≡ claim_of (with_value s kept) b
+claim_is x v s kept b a None p q e = e ∙ ap (λ (o : Option (List ℤ)). claim_of (with_value s o) b) (sym p)
+claim_is x v s kept b a (Some r) p q e =
     e ∙ (ap (λ (z : ℤ). claim_of (Some (x r, z)) b) (sym q.1) ∙ ap (λ (o : Option (List ℤ)). claim_of (with_value s o) b) (sym p))
 
 pub claims_more : {X : Type 0} (x : X → List ℤ) (v : X → ℤ) (p : Problem) (q : Pooled) (f : Found) (k : ℕ) (a : Answer) (b : Level) (best : Option X) → MatchOption best ((place_at f.points k).point ≡ None) (λ r. (place_at f.points k).point ≡ Some (x r)) → MatchOption best (Unit {0}) (λ r. HasValue (program_of f.problem k) (x r) (v r)) → MatchOption best (a ≡ claim_of None b) (λ r. a ≡ claim_of (Some (x r, v r)) b) → b ≡ bound_of p (placed_of q.slots) k → a ≡ claim_of (best_of f k) (bound_of p (placed_of q.slots) k)
-claims_more x v p q f k a b best point has is e =
-    claim_is x v (program_of f.problem k) (place_at f.points k).point b a best point has is ∙ ap (claim_of (best_of f k)) e
+claims_more x v p q f k a b best at_k has is e =
+    claim_is x v (program_of f.problem k) (place_at f.points k).point b a best at_k has is ∙ ap (claim_of (best_of f k)) e
 
 -- the list with that claim at its end
 pub each_more : (p : Problem) (q : Pooled) (f : Found) (answers : List Answer) (s : ℕ) (a : Answer) → length answers ≡ s → ((k : ℕ) (c : Answer) → slice_get answers k ≡ Some c → c ≡ claim_of (best_of f k) (bound_of p (placed_of q.slots) k)) → a ≡ claim_of (best_of f s) (bound_of p (placed_of q.slots) s) → (k : ℕ) (c : Answer) → slice_get (answers ++ a ∷ []) k ≡ Some c → c ≡ claim_of (best_of f k) (bound_of p (placed_of q.slots) k)
