@@ -1,5 +1,5 @@
 -- Worked values of the definitions, each of which a neighbouring reading gets wrong.
-use Rattle.std.specs.Prelude.{◌≡◌, ℕ, zero, suc, pos, List, [], ◌∷◌, Option, Some, None, refl}
+use Rattle.std.specs.Prelude.{◌≡◌, zero, suc, pos, [], ◌∷◌, Some, refl}
 use Rattle.std.proofs.Common.{ap, sym}
 use Rattle.scenario_changes.specs.Problems.{Problem}
 use Rattle.certs.specs.Trees.{Place}

@@ -1,7 +1,6 @@
 -- What the end of a run allows to claim.
 use Rattle.std.specs.Prelude.{◌≡◌, ◌⊎◌, ◌<◌, ◌≤◌, ℕ, zero, suc, ◌+◌, ℤ, true, false, Bool, cond, int_le, List, [], ◌∷◌, ◌++◌, length, map, filter_map, slice_get, slice_index_or, Option, Some, None, IfSome, IsTrue, MatchOption, refl}
 use Rattle.std.proofs.Common.{arith, ap, sym, ◌∙◌, subst, inl, inr}
-use Rattle.std.proofs.lemmas.Int.{ints}
 use Rattle.std.proofs.lemmas.Option.{slice_get_within, get_or_from_slice_get}
 use Rattle.int_model.specs.Programs.{Program}
 use Rattle.scenario_changes.specs.Problems.{Problem, AreWithin, program_at}
@@ -9,11 +8,10 @@ use Rattle.scenario_changes.specs.Problems as problems
 use Rattle.scenario_changes.specs.Answers.{HasValue, RightAnswer}
 use Rattle.scenario_changes.specs.declared.answer.Answer.{Answer}
 use Rattle.scenario_changes.specs.declared.answer.Answer.TheVariants.{Infeasible, Optimal, Limit}
-use Rattle.certs.specs.Levels.{level_le, lesser_level, least_level}
-use Rattle.certs.specs.Trees.{Place, IsTree, end_levels}
-use Rattle.certs.specs.Claims.{Accepted, ClaimHolds, EndsFrom, claimed_level, bound_of, claim_of}
+use Rattle.certs.specs.Levels.{level_le, least_level}
+use Rattle.certs.specs.Trees.{Place, end_levels}
+use Rattle.certs.specs.Claims.{ClaimHolds, EndsFrom, claimed_level, bound_of, claim_of}
 use Rattle.certs.specs.declared.tree.Node.{Node}
-use Rattle.certs.specs.declared.tree.Node.TheVariants.{Rest}
 use Rattle.certs.specs.declared.level.Level.{Level}
 use Rattle.certs.specs.declared.level.Level.TheVariants.{Value, Inf}
 use Rattle.certs.proofs.ClaimLaws.{all_within, ends-from-bound, run_right}
