@@ -5,18 +5,17 @@ use Rattle.int_model.specs.Programs.{Program, Feasible, value}
 use Rattle.int_model.proofs.LimitLaws.{limits-fit}
 use Rattle.scenario_changes.specs.Problems.{Scenarios}
 use Rattle.scenario_changes.specs.Answers.{HasValue}
-use Rattle.certs.specs.Levels.{level_le, cap_level, lesser_level}
+use Rattle.certs.specs.Levels.{level_le, cap_level}
 use Rattle.certs.specs.declared.level.Level.{Level}
 use Rattle.certs.specs.declared.level.Level.TheVariants.{Inf}
-use Rattle.incumbent_words.specs.Codes.{code, code_of, no_value, IsValue}
+use Rattle.incumbent_words.specs.Codes.{code_of, IsValue}
 use Rattle.incumbent_words.specs.Rule.{code_at, times, HasAll}
-use Rattle.incumbent_words.specs.declared.view.View.{View}
 use Rattle.finder.specs.Kept.{Kept, place_at}
 use Rattle.finder.specs.Found.{Found, IsOwn, IsSound, IsSameHolder, scenario_count, program_of}
 use Rattle.alone_run.specs.Turns.{IsNoWorse}
 use Rattle.alone_run.specs.Runs.{with_value, best_of, best_level, AreAbove}
-use Rattle.alone_run.specs.Steps.{IsLowered, AreLowered}
-use Rattle.alone_run.proofs.CodeOrder.{code_level, le_self, le_trans, below_both}
+use Rattle.alone_run.specs.Steps.{AreLowered}
+use Rattle.alone_run.proofs.CodeOrder.{code_level, le_trans, below_both}
 
 value_of : Option (List ℤ × ℤ) → Option ℤ
 value_of None = None

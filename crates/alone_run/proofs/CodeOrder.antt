@@ -1,6 +1,6 @@
 -- Codes and levels have one order.
-use Rattle.std.specs.Prelude.{◌≡◌, ◌^◌, ◌<◌, ◌≤◌, ℕ, zero, suc, ℤ, pos, negsuc, ◌≤ℤ◌, Option, Some, None, IfSome, IsTrue, List, [], ◌∷◌, length, slice_set, Bool, true, false, cond, refl}
-use Rattle.std.proofs.Common.{arith, ap, sym, ◌∙◌}
+use Rattle.std.specs.Prelude.{◌≡◌, ◌<◌, ◌≤◌, ℕ, zero, suc, ℤ, pos, negsuc, ◌≤ℤ◌, Option, Some, None, IfSome, IsTrue, List, [], ◌∷◌, length, slice_set, Bool, true, false, cond, refl}
+use Rattle.std.proofs.Common.{arith, ap}
 use Rattle.std.proofs.lemmas.Int.{ints}
 use Rattle.certs.specs.Levels.{level_le, cap_level, lesser_level}
 use Rattle.certs.specs.declared.level.Level.{Level}

@@ -3,3 +3,4 @@ pub mod BestLaws
 pub mod TurnLaws
 pub mod StepLaws
 pub mod RunLaws
+pub mod Examples

@@ -1,7 +1,6 @@
 -- What the end of a run allows to claim.
 use Rattle.std.specs.Prelude.{◌≡◌, ◌⊎◌, ◌<◌, ◌≤◌, ℕ, zero, suc, ◌+◌, ℤ, true, false, Bool, cond, int_le, List, [], ◌∷◌, ◌++◌, length, map, filter_map, slice_get, slice_index_or, Option, Some, None, IfSome, IsTrue, MatchOption, refl}
 use Rattle.std.proofs.Common.{arith, ap, sym, ◌∙◌, subst, inl, inr}
-use Rattle.std.proofs.lemmas.Int.{ints}
 use Rattle.std.proofs.lemmas.Option.{slice_get_within, get_or_from_slice_get}
 use Rattle.int_model.specs.Programs.{Program}
 use Rattle.scenario_changes.specs.Problems.{Problem, AreWithin, program_at}
@@ -9,11 +8,10 @@ use Rattle.scenario_changes.specs.Problems as problems
 use Rattle.scenario_changes.specs.Answers.{HasValue, RightAnswer}
 use Rattle.scenario_changes.specs.declared.answer.Answer.{Answer}
 use Rattle.scenario_changes.specs.declared.answer.Answer.TheVariants.{Infeasible, Optimal, Limit}
-use Rattle.certs.specs.Levels.{level_le, lesser_level, least_level}
-use Rattle.certs.specs.Trees.{Place, IsTree, end_levels}
-use Rattle.certs.specs.Claims.{Accepted, ClaimHolds, EndsFrom, claimed_level, bound_of, claim_of}
+use Rattle.certs.specs.Levels.{level_le, least_level}
+use Rattle.certs.specs.Trees.{Place, end_levels}
+use Rattle.certs.specs.Claims.{ClaimHolds, EndsFrom, claimed_level, bound_of, claim_of}
 use Rattle.certs.specs.declared.tree.Node.{Node}
-use Rattle.certs.specs.declared.tree.Node.TheVariants.{Rest}
 use Rattle.certs.specs.declared.level.Level.{Level}
 use Rattle.certs.specs.declared.level.Level.TheVariants.{Value, Inf}
 use Rattle.certs.proofs.ClaimLaws.{all_within, ends-from-bound, run_right}
@@ -201,14 +199,14 @@ module _ (p : Problem) (begun : Pooled) (first : Found) (q : Pooled) (f : Found)
 
 -- ---- a claim more
 
-claim_is : {X : Type 0} (x : X → List ℤ) (v : X → ℤ) (s : Program) (point : Option (List ℤ)) (b : Level) (a : Answer) (best : Option X) → MatchOption best (point ≡ None) (λ r. point ≡ Some (x r)) → MatchOption best (Unit {0}) (λ r. HasValue s (x r) (v r)) → MatchOption best (a ≡ claim_of None b) (λ r. a ≡ claim_of (Some (x r, v r)) b) → a ≡ claim_of (with_value s point) b
-claim_is x v s point b a None p q e = e ∙ ap (λ (o : Option (List ℤ)). claim_of (with_value s o) b) (sym p)
-claim_is x v s point b a (Some r) p q e =
+claim_is : {X : Type 0} (x : X → List ℤ) (v : X → ℤ) (s : Program) (kept : Option (List ℤ)) (b : Level) (a : Answer) (best : Option X) → MatchOption best (kept ≡ None) (λ r. kept ≡ Some (x r)) → MatchOption best (Unit {0}) (λ r. HasValue s (x r) (v r)) → MatchOption best (a ≡ claim_of None b) (λ r. a ≡ claim_of (Some (x r, v r)) b) → a ≡ claim_of (with_value s kept) b
+claim_is x v s kept b a None p q e = e ∙ ap (λ (o : Option (List ℤ)). claim_of (with_value s o) b) (sym p)
+claim_is x v s kept b a (Some r) p q e =
     e ∙ (ap (λ (z : ℤ). claim_of (Some (x r, z)) b) (sym q.1) ∙ ap (λ (o : Option (List ℤ)). claim_of (with_value s o) b) (sym p))
 
 pub claims_more : {X : Type 0} (x : X → List ℤ) (v : X → ℤ) (p : Problem) (q : Pooled) (f : Found) (k : ℕ) (a : Answer) (b : Level) (best : Option X) → MatchOption best ((place_at f.points k).point ≡ None) (λ r. (place_at f.points k).point ≡ Some (x r)) → MatchOption best (Unit {0}) (λ r. HasValue (program_of f.problem k) (x r) (v r)) → MatchOption best (a ≡ claim_of None b) (λ r. a ≡ claim_of (Some (x r, v r)) b) → b ≡ bound_of p (placed_of q.slots) k → a ≡ claim_of (best_of f k) (bound_of p (placed_of q.slots) k)
-claims_more x v p q f k a b best point has is e =
-    claim_is x v (program_of f.problem k) (place_at f.points k).point b a best point has is ∙ ap (claim_of (best_of f k)) e
+claims_more x v p q f k a b best at_k has is e =
+    claim_is x v (program_of f.problem k) (place_at f.points k).point b a best at_k has is ∙ ap (claim_of (best_of f k)) e
 
 -- the list with that claim at its end
 pub each_more : (p : Problem) (q : Pooled) (f : Found) (answers : List Answer) (s : ℕ) (a : Answer) → length answers ≡ s → ((k : ℕ) (c : Answer) → slice_get answers k ≡ Some c → c ≡ claim_of (best_of f k) (bound_of p (placed_of q.slots) k)) → a ≡ claim_of (best_of f s) (bound_of p (placed_of q.slots) s) → (k : ℕ) (c : Answer) → slice_get (answers ++ a ∷ []) k ≡ Some c → c ≡ claim_of (best_of f k) (bound_of p (placed_of q.slots) k)

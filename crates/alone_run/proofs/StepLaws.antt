@@ -1,5 +1,5 @@
 -- What a settled turn makes of a pool.
-use Rattle.std.specs.Prelude.{◌≡◌, ◌<◌, ◌≤◌, ℕ, zero, suc, ◌+◌, ◌-◌, ◌*◌, ℤ, List, [], ◌∷◌, ◌++◌, length, slice_get, slice_index_or, slice_set, Option, Some, None, option_map, unwrap_or, IfSome, IsTrue, Contains, Bool, true, false, not, cond, nat_eq, ◌⊎◌, ◌≢◌, refl}
+use Rattle.std.specs.Prelude.{◌≡◌, ◌<◌, ◌≤◌, ℕ, zero, suc, ◌+◌, ℤ, List, [], ◌∷◌, ◌++◌, length, slice_get, slice_index_or, slice_set, Option, Some, None, option_map, unwrap_or, IsTrue, Contains, Bool, true, false, not, cond, nat_eq, ◌≢◌, refl}
 use Rattle.std.specs.Cmp.{nat_eq_equiv}
 use Rattle.std.specs.List.{list_any}
 use Rattle.std.proofs.Common.{arith, ap, sym, ◌∙◌, subst, inl, inr, length-set, length-append}
@@ -24,13 +24,13 @@ use Rattle.bb_core.specs.declared.work.Outcome.{Outcome}
 use Rattle.bb_core.specs.declared.work.Outcome.TheVariants.{Close, Split}
 use Rattle.bb_core.specs.declared.work.Settlement.{Settlement}
 use Rattle.bb_core.specs.declared.work.Work.{Work}
-use Rattle.bb_core.specs.Coverage.{Slot, Mark, Closed, Open, Held, Stands, MaySettle, ReachesCaps, slot_at, marked_as, new_slots, open_at, settled}
+use Rattle.bb_core.specs.Coverage.{Slot, Mark, Closed, Open, MaySettle, ReachesCaps, slot_at, marked_as, new_slots, open_at, settled}
 use Rattle.bb_core.proofs.ListWrites.{set-get, append-get}
-use Rattle.incumbent_words.specs.Codes.{code, code_of, no_value, IsValue}
+use Rattle.incumbent_words.specs.Codes.{code, no_value, IsValue}
 use Rattle.incumbent_words.specs.Rule.{code_at, HasAll}
 use Rattle.incumbent_words.specs.Seats.{Held as Seat}
 use Rattle.finder.specs.Found.{Found, IsSound, IsSameHolder, scenario_count}
-use Rattle.node_work.specs.Stayers.{AreStayers, is_below, undercuts}
+use Rattle.node_work.specs.Stayers.{AreStayers, is_below}
 use Rattle.open_pool.specs.Marks.{claimed, is_held_by}
 use Rattle.open_pool.specs.Pooled.{Pooled, HasNone, IsNext, is_claimed, is_open, reopened, count_open}
 use Rattle.open_pool.specs.Claims.{IsClaim, IsSettled, IsSplit}
@@ -40,7 +40,7 @@ use Rattle.open_pool.specs.declared.pool.Settled.TheVariants.{Closed as WasClose
 use Rattle.open_pool.proofs.LawfulLaws.{length_raised}
 use Rattle.alone_run.specs.Turns.{AreCuts, IsNoWorse, IsTurn}
 use Rattle.alone_run.specs.Runs.{AreAbove}
-use Rattle.alone_run.specs.Steps.{IsLowered, AreLowered, GoesOn, IsOver, IsReady, weight}
+use Rattle.alone_run.specs.Steps.{IsLowered, AreLowered, GoesOn, IsOver, IsReady}
 use Rattle.alone_run.proofs.BestLaws.{above_falls, above_lowered, above_same, all_held}
 use Rattle.alone_run.proofs.CodeOrder.{code_same, le_trans, lesser_below}
 

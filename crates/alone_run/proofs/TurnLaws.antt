@@ -1,18 +1,15 @@
 -- What is known within a turn.
-use Rattle.std.specs.Prelude.{◌≡◌, ◌<◌, ◌≤◌, ℕ, zero, suc, ◌+◌, ℤ, List, [], ◌∷◌, ◌++◌, length, slice_get, slice_index_or, slice_set, min, Option, Some, None, IfSome, IsTrue, All, Contains, ◌⊎◌, refl}
-use Rattle.std.proofs.Common.{arith, ap, sym, ◌∙◌, subst, inl, inr, length-set, get_or}
-use Rattle.std.proofs.lemmas.List.Elements.{All-contains}
-use Rattle.int_model.specs.Programs.{Program, Feasible, value}
+use Rattle.std.specs.Prelude.{◌≡◌, ◌<◌, ◌≤◌, ℕ, zero, suc, ℤ, List, [], ◌∷◌, ◌++◌, length, slice_get, slice_index_or, min, Option, Some, None, All, refl}
+use Rattle.std.proofs.Common.{arith, ap, ◌∙◌, inl, inr, length-set}
+use Rattle.int_model.specs.Programs.{value}
 use Rattle.int_model.proofs.LimitLaws.{limits-fit}
 use Rattle.scenario_changes.specs.Problems.{Problem, Scenarios, AreWithin, program_at}
 use Rattle.scenario_changes.specs.Problems as problems
-use Rattle.certs.specs.Levels.{level_le, cap_level}
 use Rattle.certs.specs.declared.cert.Cert.{Cert}
 use Rattle.certs.specs.declared.verdict.Verdict.{Verdict}
-use Rattle.certs.specs.declared.level.Level.TheVariants.{Value}
 use Rattle.bb_core.specs.Settlements.{Work}
 use Rattle.bb_core.proofs.ListWrites.{append-get}
-use Rattle.incumbent_words.specs.Codes.{code, code_of, IsValue}
+use Rattle.incumbent_words.specs.Codes.{IsValue}
 use Rattle.incumbent_words.specs.Rule.{code_at, looked, offered}
 use Rattle.incumbent_words.specs.declared.view.View.{View}
 use Rattle.finder.specs.Found.{Found, IsSameHolder, IsOffered, value_code, scenario_count, program_of}

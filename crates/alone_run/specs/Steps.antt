@@ -1,5 +1,5 @@
 -- The steps of a run.
-use Rattle.std.specs.Prelude.{◌≡◌, ◌⊎◌, ◌<◌, ◌+◌, ◌-◌, ◌*◌, ℕ, ℤ, true, List, Option, None, Some, IfSome, length, slice_get, slice_index_or}
+use Rattle.std.specs.Prelude.{◌≡◌, ◌⊎◌, ◌<◌, ◌+◌, ◌-◌, ◌*◌, ℕ, ℤ, true, List, Option, Some, IfSome, length, slice_get, slice_index_or}
 use Rattle.scenario_changes.specs.Problems.{Problem, Scenarios}
 use Rattle.scenario_changes.specs.Problems as problems
 use Rattle.scenario_changes.specs.declared.answer.Answer.{Answer}

@@ -1,4 +1,4 @@
-use Rattle.std.proofs.Common.{◌≡◌, ◌+◌, ◌∙◌, ◌++◌, ◌∷◌, [], sym, subst, ap, arith, length, length-append, List, ℕ, Some}
+use Rattle.std.proofs.Common.{◌≡◌, ◌+◌, ◌∙◌, ◌++◌, ◌∷◌, [], sym, subst, ap, length, length-append, List, ℕ, Some}
 use Rattle.std.specs.Prelude.{slice_get}
 use Rattle.scenario_changes.specs.Problems.{Problem, problem}
 use Rattle.scenario_changes.specs.declared.answer.Answer.{Answer}

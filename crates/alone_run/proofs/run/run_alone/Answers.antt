@@ -1,8 +1,7 @@
-use Rattle.std.proofs.Common.{◌≡◌, ◌⊎◌, ◌∙◌, ◌<◌, ◌≤◌, ◌+◌, sym, subst, ap, arith, inl, inr, length, List, true, Ok}
+use Rattle.std.proofs.Common.{◌≡◌, ◌∙◌, sym, subst, ap, length, Ok}
 use Rattle.scenario_changes.specs.Problems.{Problem, AreWithin, problem}
 use Rattle.bb_core.specs.Coverage.{Covers}
-use Rattle.certs.specs.declared.tree.Node.{Node}
-use Rattle.open_pool.specs.Pooled.{Pooled, nodes_of}
+use Rattle.open_pool.specs.Pooled.{Pooled}
 use Rattle.finder.specs.Found.{Found}
 use Rattle.alone_run.specs.Runs.{IsRun}
 use Rattle.alone_run.specs.Steps.{IsOver}

@@ -1,4 +1,4 @@
-use Rattle.std.proofs.Common.{◌≡◌, ◌++◌, length}
+use Rattle.std.proofs.Common.{length}
 use Rattle.scenario_changes.specs.Problems.{problem}
 use Rattle.alone_run.specs.Turns.{IsNoWorse, AreOffered, ArePointsBelow}
 use Rattle.alone_run.proofs.turning.offer_all.Given as goal

@@ -1,4 +1,4 @@
-use Rattle.std.proofs.Common.{◌≡◌, ◌≤◌, ◌<◌, ◌∙◌, sym, subst, ap, arith, length, ℕ, ℤ, List, Option, Contains}
+use Rattle.std.proofs.Common.{◌≡◌, ◌<◌, ◌∙◌, sym, subst, ap, arith, length, ℕ, ℤ, List, Option}
 use Rattle.std.proofs.lemmas.List.Elements.{All-contains}
 use Rattle.scenario_changes.specs.Problems.{Scenarios, AreWithin, problem}
 use Rattle.certs.specs.declared.cert.Cert.{Cert}
@@ -7,7 +7,7 @@ use Rattle.bb_core.specs.Settlements.{Work}
 use Rattle.bb_core.specs.Shared.{work_of, stay_of}
 use Rattle.incumbent_words.specs.Rule.{code_at, note_of, HasAll}
 use Rattle.incumbent_words.specs.declared.view.View.{View}
-use Rattle.finder.specs.Found.{Found, IsSound, scenario_count}
+use Rattle.finder.specs.Found.{Found, IsSound}
 use Rattle.node_work.specs.Probes.{IsGoodProbe}
 use Rattle.node_work.specs.Stayers.{AreStayers}
 use Rattle.alone_run.specs.Turns.{IsProbed}
