@@ -12,6 +12,7 @@ use Rattle.scenario_changes.specs.Problems.{Scenarios, problem}
 use Rattle.certs.specs.Trees.{cert_fits, step_within, vector_within}
 use Rattle.certs.specs.Verdicts.{AllRowsBelow}
 use Rattle.certs.specs.declared.cert.Cert.{Cert}
+use Rattle.certs.proofs.FitLemmas.{vectors-within}
 
 step-within : (m : IntegerModel) (step : Step) → IsStep m step → step_within (length m.rows) (length m.columns) step ≡ true
 step-within m step h =
@@ -46,3 +47,6 @@ fits-by p cert steps few vectors two =
     (and_from (nat_le (length cert.steps) 128) (list_all (step_within (length p.model.rows) (length p.model.columns)) cert.steps) (few-are (length cert.steps) 128 few) (steps-within p.model cert.steps steps))
     (few-are (length cert.vectors) 2 two))
     (vectors-are-within (length p.model.rows) cert.vectors vectors)
+
+pub vector_rows : (n : ℕ) (v : Multipliers) → vector_within n v ≡ true → RowsBelow n v.entries
+vector_rows n v h = (vectors-within n (v ∷ []) (and_from (vector_within n v) true h refl)).0

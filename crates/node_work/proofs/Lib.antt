@@ -9,6 +9,7 @@ pub mod StayLaws
 pub mod SingleLaws
 pub mod RemainingLaws
 pub mod FitLaws
+pub mod BoundingLaws
 pub mod ChoiceLaws
 pub mod HullLaws
 pub mod MadeLaws

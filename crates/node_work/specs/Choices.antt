@@ -1,5 +1,5 @@
 -- How a verdict is chosen.
-use Rattle.std.specs.Prelude.{◌≡◌, ℕ, ◌<◌, ℤ, Bool, true, false, if◌then◌else◌, List, [], ◌∷◌, ◌++◌, slice_get, Option, Some, None, IsTrue, ◌⊎◌}
+use Rattle.std.specs.Prelude.{◌≡◌, ℕ, ◌<◌, ◌≤◌, ℤ, Bool, true, false, if◌then◌else◌, List, [], ◌∷◌, ◌++◌, length, slice_get, Option, Some, None, IsTrue, ◌⊎◌}
 use Rattle.int_model.specs.Boxes.{Box, is_single}
 use Rattle.int_model.specs.Programs.{Program, Feasible, value}
 use Rattle.tighten.specs.Replay.{replay}
@@ -7,13 +7,13 @@ use Rattle.dual_bounds.specs.Vectors.{Multipliers, program_bound}
 use Rattle.scenario_changes.specs.Problems.{Problem, program_at}
 use Rattle.certs.specs.Levels.{level_le}
 use Rattle.certs.specs.Trees.{some_row_misses, stayer_box}
-use Rattle.certs.specs.Verdicts.{judged, level_over, bound_level, farkas_level}
+use Rattle.certs.specs.Verdicts.{AllRowsBelow, judged, level_over, bound_level, farkas_level}
 use Rattle.certs.specs.declared.level.Level.{Level}
 use Rattle.certs.specs.declared.level.Level.TheVariants.{Value, Inf}
 use Rattle.certs.specs.declared.verdict.Verdict.{Verdict}
 use Rattle.certs.specs.declared.verdict.Verdict.TheVariants.{Point, Bound, Farkas}
 use Rattle.certs.specs.declared.cert.Cert.{Cert}
-use Rattle.node_work.specs.Probes.{Found, lows_of}
+use Rattle.node_work.specs.Probes.{Found, IsAscent, lows_of}
 use Rattle.node_work.specs.declared.verdicts.Choice.{Choice}
 
 -- the verdict is valid over a replay that isn't empty, and has this level
@@ -75,3 +75,11 @@ pub record IsConcluded (p : Problem) (box : Box) (cert : Cert) (k : ℕ) (c : Ch
 abbrev pub IsKept : Found → ℕ → List ℤ → Bool → Found → Type 0
 IsKept old k x true new = new ≡ old ++ (k, x) ∷ []
 IsKept old k x false new = new ≡ old
+
+-- at most two vectors with rows of the model, of which the first one is as the promise on multipliers asks
+pub record AreBounding (p : Problem) (rows : ℕ) (live : List ℕ) (boxes : List Box) (vectors : List Multipliers) : Type 0 where
+  pub vector : Multipliers
+  pub first : slice_get vectors 0 ≡ Some vector
+  pub ascent : IsAscent p live boxes vector
+  pub rows_below : AllRowsBelow rows vectors
+  pub few : length vectors ≤ 2

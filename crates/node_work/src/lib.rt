@@ -5,15 +5,21 @@
 //! `specs/Stayers.antt` which scenarios stay.
 #![tactic(auto)]
 
+mod bounding;
 mod climbs;
 mod deciding;
+mod dives;
 mod findings;
+mod hints;
 mod judging;
 mod levels;
 mod multipliers;
+mod peeling;
 mod probing;
 mod remaining;
 mod splits;
+mod standings;
+mod starts;
 mod stayers;
 mod steps;
 mod verdicts;

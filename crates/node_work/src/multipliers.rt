@@ -25,8 +25,8 @@ pub(crate) fn without_entries(alloc: Global) -> Result<Vector, AllocError>
     }
 }
 
-// The sum of a vector for a scenario in a box.
-fn sum_of(problem: &Problem, s: u32, part: &PointBox, vector: &Vector) -> i128
+/// The sum of a vector for a scenario in a box.
+pub(crate) fn sum_of(problem: &Problem, s: u32, part: &PointBox, vector: &Vector) -> i128
     requires scenario { s < length (posed problem.now).scenarios }
     requires columns { length part.now ≡ length problem.now.model.columns }
     requires rows { RowsBelow (length problem.now.model.rows) vector.now.entries }

@@ -6,9 +6,12 @@ ghost use Rattle.bb_core.specs.Shared.{work_of};
 ghost use Rattle.node_work.specs.Probes.{EachLive, IsGoodProbe, IsBestVerdict, HasAscent};
 
 use crate::Probe;
-use crate::climbs::{Candidate, climb_least};
-use crate::multipliers::first_vector;
+use crate::bounding::{Bounding, bound_all};
+use crate::dives::dive_open;
+use crate::hints::hint_of;
 use crate::remaining::Remaining;
+use crate::splits::split_of;
+use crate::standings::Standings;
 use crate::steps::steps_over;
 use crate::verdicts::judge_live;
 use bb_core::Work;
@@ -34,14 +37,17 @@ pub fn probe(alloc: Global, problem: &Problem, work: &Work) -> Result<Probe, All
         vectors: Vectors::new(alloc),
     };
     let remaining = Remaining::new(alloc, problem, work.live, &work.bounds, &cert)?;
-    let Candidate {
-        vector,
-        found,
-        hint,
-        split,
-    } = climb_least(alloc, problem, work, &cert, remaining.scenarios)?;
-    cert.vectors
-        .push(first_vector(alloc, problem, &remaining, vector)?);
+    let mut standings = Standings::new(alloc, problem, work, &remaining)?;
+    let bounding = bound_all(alloc, problem, work, &cert, &remaining, &mut standings)?;
+    let found = dive_open(alloc, problem, work, &cert, &standings, &bounding.first)?;
+    let split = split_of(alloc, problem, &remaining, &standings, &bounding)?;
+    let Bounding {
+        vectors,
+        first,
+        second: _,
+    } = bounding;
+    let hint = hint_of(alloc, &vectors, first)?;
+    cert.vectors = vectors;
     let judgement = judge_live(alloc, problem, work.live, &work.bounds, &cert, found)?;
     Ok(Probe {
         cert,

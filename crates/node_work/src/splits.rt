@@ -1,9 +1,14 @@
 // Where a box is split, by a point near which a relaxation is least.
 ghost use Rattle.std.specs.Prelude.{◌≡◌, ◌<◌, length};
 
+use crate::bounding::Bounding;
+use crate::climbs::Climb;
+use crate::peeling::peel;
+use crate::remaining::Remaining;
+use crate::standings::Standings;
 use branching::Branch;
 use dual_bounds::Vector;
-use int_model::{Model, NearPoint, PointBox};
+use int_model::Model;
 use scenario_changes::Problem;
 use std::alloc::{AllocError, Global};
 
@@ -12,8 +17,12 @@ const ONE: i64 = 1 << 14;
 
 const LEAST: i64 = 1 << 8;
 
-// The multiplier of each row.
-fn multipliers(alloc: Global, rows: u32, vector: &Vector) -> Result<Vec<i64>, AllocError> {
+/// The multiplier of each row.
+pub(crate) fn multipliers(
+    alloc: Global,
+    rows: u32,
+    vector: &Vector,
+) -> Result<Vec<i64>, AllocError> {
     let mut all = vec![in alloc; 0; rows as usize]?;
     for &(row, multiplier) in vector.entries() {
         if let Some(place) = all.get_mut(row as usize) {
@@ -55,29 +64,28 @@ fn fraction(near: i64, low: i32, high: i32) -> Option<(i32, u128)> {
     }
 }
 
-/// A split at a column whose near number isn't whole: at that of the greatest distance from a whole number
-/// times its mass, the first one of these. None where all near numbers are whole. It is a hint, of which
-/// nothing is promised.
-pub(crate) fn split_near(
+// A split at a column whose near number isn't whole: at that of the greatest distance from a whole number
+// times its mass, the first one of these. None where all near numbers are whole.
+fn split_near(
     alloc: Global,
     problem: &Problem,
-    part: &PointBox,
+    climb: &Climb,
     vector: &Vector,
-    near: &NearPoint,
-) -> Result<Option<Branch>, AllocError>
-    requires { length part.now ≡ length problem.now.model.columns }
-{
+) -> Result<Option<Branch>, AllocError> {
     let model = problem.model();
     let multipliers = multipliers(alloc, model.rows(), vector)?;
-    let lows = part.lows();
-    let highs = part.highs();
+    let lows = climb.part.lows();
+    let highs = climb.part.highs();
     let mut best = None;
     let mut greatest: u128 = 0;
     for column in 0..model.columns() {
         let j = column as usize;
-        let Some(number) = near.get(j) else {
+        let Some(number) = climb.near.get(j) else {
             break;
         };
+        if j >= lows.len() || j >= highs.len() {
+            break;
+        }
         if let Some((value, distance)) = fraction(*number, lows[j], highs[j]) {
             let weight = mass(model, column, &multipliers).saturating_mul(distance);
             if best.is_none() || weight > greatest {
@@ -87,4 +95,47 @@ pub(crate) fn split_near(
         }
     }
     Ok(best)
+}
+
+// The same by one of the vectors of a node, where its scenario is still open.
+fn split_by(
+    alloc: Global,
+    problem: &Problem,
+    standings: &Standings,
+    climb: &Option<Climb>,
+    vector: Option<&Vector>,
+) -> Result<Option<Branch>, AllocError> {
+    let Some(climb) = climb else {
+        return Ok(None);
+    };
+    let Some(vector) = vector else {
+        return Ok(None);
+    };
+    if !standings.is_open(climb.scenario) {
+        return Ok(None);
+    }
+    split_near(alloc, problem, climb, vector)
+}
+
+/// Where to split: near the end of the first or else of the second climb, or else so that one part is dear
+/// for every scenario that is open. It is a hint, of which nothing is promised.
+pub(crate) fn split_of(
+    alloc: Global,
+    problem: &Problem,
+    remaining: &Remaining,
+    standings: &Standings,
+    bounding: &Bounding,
+) -> Result<Option<Branch>, AllocError> {
+    let first = bounding.vectors.get(0);
+    if let Some(branch) = split_by(alloc, problem, standings, &bounding.first, first)? {
+        return Ok(Some(branch));
+    }
+    let second = bounding.vectors.get(1);
+    if let Some(branch) = split_by(alloc, problem, standings, &bounding.second, second)? {
+        return Ok(Some(branch));
+    }
+    match first {
+        Some(vector) => peel(alloc, problem, remaining, standings, vector),
+        None => Ok(None),
+    }
 }

@@ -102,14 +102,18 @@ fn root_is_bounded(rt: HostRuntime) -> Result<(), Fail> {
     let problem = capacity(&rt, alloc)?;
     let none = Cuts::from_vec(Vec::new(alloc));
     let below_all = Cuts::from_vec(vec![in alloc; Some(-1000), Some(-1000)]?);
-    let cases = [(None, none), (Some(misfit(alloc)?), below_all)];
-    for (hint, cuts) in cases {
+    // Scenario 1 has the lesser level, so the first climb is for it. With cuts below all there is none.
+    let cases = [
+        (None, none, 2, Verdict::Bound(1)),
+        (Some(misfit(alloc)?), below_all, 1, Verdict::Bound(0)),
+    ];
+    for (hint, cuts, vectors, verdict) in cases {
         let made = probed(&rt, alloc, &problem, hint, cuts)?;
         assert_eq!(&rt; made.cert.steps.len(), 1);
-        assert_eq!(&rt; made.cert.vectors.len(), 1);
-        assert_eq!(&rt; made.verdicts.get(0).copied(), Some(Verdict::Bound(0)));
+        assert_eq!(&rt; made.cert.vectors.len(), vectors);
+        assert_eq!(&rt; made.verdicts.get(0).copied(), Some(verdict));
         assert_eq!(&rt; made.verdicts.get(1).copied(), Some(Verdict::Bound(0)));
-        assert!(&rt; !made.found.is_empty());
+        assert_eq!(&rt; made.found.is_empty(), vectors == 1);
     }
     Ok(())
 }

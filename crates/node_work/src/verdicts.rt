@@ -72,6 +72,23 @@ fn bound_level(problem: &Problem, s: u32, part: &PointBox, vector: &Vector) -> O
     Some(Level::Value(value))
 }
 
+/// The level that a vector shows of a scenario in a box, None where that is nothing.
+pub(crate) fn shown_level(
+    problem: &Problem,
+    s: u32,
+    part: &PointBox,
+    vector: &Vector,
+) -> Option<Level>
+    requires scenario { s < length (posed problem.now).scenarios }
+    requires columns { length part.now ≡ length problem.now.model.columns }
+    requires rows { RowsBelow (length problem.now.model.rows) vector.now.entries }
+{
+    match bound_level(problem, s, part, vector) {
+        Some(level) => Some(level),
+        None => farkas_level(problem, s, part, vector),
+    }
+}
+
 // What a vector shows of a scenario in a box, None where that is nothing.
 fn shown_by(problem: &Problem, s: u32, part: &PointBox, vectors: &Vectors, k: u32) -> Option<Choice>
     requires scenario { s < length (posed problem.now).scenarios }

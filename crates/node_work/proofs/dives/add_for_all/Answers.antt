@@ -2,7 +2,7 @@ use Rattle.std.proofs.Common.{◌≡◌}
 use Rattle.scenario_changes.specs.Problems.{problem}
 use Rattle.node_work.proofs.StayerLemmas.{go_on}
 use Rattle.node_work.proofs.ChoiceLaws.{kept_found}
-use Rattle.node_work.proofs.climbs.points_for_all.Goals as goal
+use Rattle.node_work.proofs.dives.add_for_all.Goals as goal
 
 pub loop-s-preserved : goal.loop-s-preserved
 loop-s-preserved c = record {
