@@ -1,2 +1,12 @@
 pub mod WriterLemmas
 pub mod LogExamples
+pub mod SourceLaws
+pub mod ReaderLemmas
+pub mod Runs
+pub mod WordLaws
+pub mod LineLaws
+pub mod CertLineLaws
+pub mod DraftLaws
+pub mod LogTextLaws
+pub mod Endings
+pub mod StepLaws

@@ -1,0 +1,21 @@
+use Rattle.std.proofs.Common.{◌≡◌, rules, Some, []}
+use Rattle.tree_log.specs.Logs.{whole_lines}
+use Rattle.tree_log.specs.LineWords.{words_of}
+use Rattle.tree_log.specs.Drafts.{draft_of, taken, finished}
+use Rattle.tree_log.proofs.Runs.{reached_more}
+use Rattle.tree_log.proofs.Endings.{ended_well}
+use Rattle.tree_log.proofs.reader.read_log.Goals as goal
+
+pub loop-text-preserved : goal.loop-text-preserved
+loop-text-preserved c =
+    let took : taken (draft_of c.loop-text.draft) (words_of c.in-Some.text.now) ≡ Some (draft_of c.in-Ok.next) = search rules in
+    record {
+      reached = reached_more c.args.bytes.now c.loop-text.rest.now c.in-Some.text.now c.in-Some.behind.now c.loop-text.line (draft_of c.loop-text.draft) (draft_of c.in-Ok.next) c.loop-text.invariant.reached c.in-Some.ensures.some c.in-Some.ensures.text took;
+      few = c.loop-text.invariant.few;
+    }
+
+pub returns-in-Some-finished : goal.returns-in-Some-finished
+returns-in-Some-finished c =
+    let log : finished (draft_of c.loop-text.draft) c.loop-text.rest.now ≡ Some c.in-Some-finished.log = search rules in
+    let none : whole_lines c.loop-text.rest.now ≡ [] = search rules in
+    ended_well c.args.bytes.now c.loop-text.rest.now c.loop-text.line (draft_of c.loop-text.draft) c.in-Some-finished.log c.loop-text.invariant.reached log
