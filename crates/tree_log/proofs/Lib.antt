@@ -10,3 +10,8 @@ pub mod DraftLaws
 pub mod LogTextLaws
 pub mod Endings
 pub mod StepLaws
+pub mod AgainLaws
+pub mod FileRuns
+pub mod TextCuts
+pub mod FileLines
+pub mod Completions

@@ -33,7 +33,7 @@ pub words_of-last : (bytes : List ℕ) → position is_space bytes ≡ None → 
 words_of-last bytes e = split_none is_space bytes e
 
 -- a further part keeps the first one
-onto_last : (p : ℕ → Bool) (l bytes : List ℕ) → all_but_last (l ∷ slice_split p bytes) ≡ l ∷ all_but_last (slice_split p bytes)
+pub onto_last : (p : ℕ → Bool) (l bytes : List ℕ) → all_but_last (l ∷ slice_split p bytes) ≡ l ∷ all_but_last (slice_split p bytes)
 onto_last p l [] = refl
 onto_last p l (b ∷ bytes) = elim (p b) as (λ t. all_but_last (l ∷ cond t ([] ∷ slice_split p bytes) (onto_first b (slice_split p bytes))) ≡ l ∷ all_but_last (cond t ([] ∷ slice_split p bytes) (onto_first b (slice_split p bytes)))) [
   | true ↦ refl

@@ -26,7 +26,7 @@ branch : {X : Type 0} (b : Bool) (o p : Option X) (x : X) → cond b o p ≡ Som
 branch true o p x e = inl (refl, e)
 branch false o p x e = inr (refl, e)
 
-body_more : (k : Counts) (answers : List Answer) (nodes : List Node) (n : Node) → IsOpen k answers nodes → node_has_text k.scenarios k.columns k.rows k.nodes n ≡ true → IsBody k answers (nodes ++ n ∷ [])
+pub body_more : (k : Counts) (answers : List Answer) (nodes : List Node) (n : Node) → IsOpen k answers nodes → node_has_text k.scenarios k.columns k.rows k.nodes n ≡ true → IsBody k answers (nodes ++ n ∷ [])
 body_more k answers nodes n h fit = record {
   counts = h.body.counts;
   claims = h.body.claims;
@@ -123,7 +123,7 @@ between_made k answers nodes ws c h e = elim (branch (nat_lt (length answers) k.
 
 -- ---- certificates
 
-tail_more : (a b c : List Line) (s w : Line) → a ++ (b ++ (s ∷ (c ++ w ∷ []))) ≡ (a ++ (b ++ s ∷ c)) ++ w ∷ []
+pub tail_more : (a b c : List Line) (s w : Line) → a ++ (b ++ (s ∷ (c ++ w ∷ []))) ≡ (a ++ (b ++ s ∷ c)) ++ w ∷ []
 tail_more a b c s w = sym (append_assoc a (b ++ s ∷ c) (w ∷ []) ∙ ap (λ (l : List Line). a ++ l) (append_assoc b (s ∷ c) (w ∷ [])))
 
 vector_made : (k : Counts) (answers : List Answer) (nodes : List Node) (split : Option SplitPart) (steps : List Step) (vectors : List Multipliers) (ws : Line) (v : Multipliers) → IsOpen k answers nodes → IsRecord k split steps vectors → length vectors < 2 → line.counted_vector k.rows ws ≡ Some v → IsMade (front_words k answers nodes ++ (opened split ++ steps_words steps ∷ map vector_words vectors)) (codes "vector" ∷ ws) (record { counts = k; answers = answers; nodes = nodes; part = part.Vectors split steps (vectors ++ v ∷ []) })
@@ -155,7 +155,7 @@ cert_fits k split steps vectors ws vs r v =
     (all (nat_le (length steps) 128) (list_all (step_has_text k.columns k.rows) steps) (le_true (length steps) 128 r.few_steps) r.steps)
     (le_true (length vectors) 2 r.few_vectors)) r.vectors) (lt_true 0 (length vs) v.some)) (le_true (length vs) k.scenarios v.few)) v.fit
 
-node_fits : (k : Counts) (split : Option SplitPart) (steps : List Step) (vectors : List Multipliers) (ws : Line) (vs : List Verdict) → IsRecord k split steps vectors → VerdictLine k.scenarios k.rows ws vs → node_has_text k.scenarios k.columns k.rows k.nodes (node_of split steps vectors vs) ≡ true
+pub node_fits : (k : Counts) (split : Option SplitPart) (steps : List Step) (vectors : List Multipliers) (ws : Line) (vs : List Verdict) → IsRecord k split steps vectors → VerdictLine k.scenarios k.rows ws vs → node_has_text k.scenarios k.columns k.rows k.nodes (node_of split steps vectors vs) ≡ true
 node_fits k None steps vectors ws vs r v = cert_fits k None steps vectors ws vs r v
 node_fits k (Some s) steps vectors ws vs r v =
     all _ (cert_has_text k.scenarios k.columns k.rows (record { steps = steps; vectors = vectors }) vs)
@@ -164,7 +164,7 @@ node_fits k (Some s) steps vectors ws vs r v =
     (all _ (nat_lt s.head.column k.columns)
     (all (nat_lt 0 s.head.child) (nat_lt (suc s.head.child) k.nodes) r.split.0.some r.split.0.below) r.split.0.column) r.split.0.value) r.split.1) (cert_fits k (Some s) steps vectors ws vs r v)
 
-node_lines : (split : Option SplitPart) (steps : List Step) (vectors : List Multipliers) (vs : List Verdict) → node_words (node_of split steps vectors vs) ≡ opened split ++ (steps_words steps ∷ (map vector_words vectors ++ verdicts_words vs ∷ []))
+pub node_lines : (split : Option SplitPart) (steps : List Step) (vectors : List Multipliers) (vs : List Verdict) → node_words (node_of split steps vectors vs) ≡ opened split ++ (steps_words steps ∷ (map vector_words vectors ++ verdicts_words vs ∷ []))
 node_lines None steps vectors vs = refl
 node_lines (Some s) steps vectors vs = refl
 

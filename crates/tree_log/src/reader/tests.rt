@@ -2,6 +2,7 @@
 
 use super::read_log;
 use crate::{LogError, LogKind};
+use num_text::Lines;
 use std::alloc::{AllocError, Global};
 use std::process::Abort;
 use std::test::Fail;
@@ -35,22 +36,15 @@ fn reads_worked_logs(rt: HostRuntime) -> Result<(), Fail> {
     Ok(())
 }
 
-// A text whose line `number`, counted from 1, is this one; None leaves the line out.
-fn with_line(
-    alloc: Global,
-    text: &str,
-    number: usize,
-    line: Option<&str>,
-) -> Result<String, AllocError> {
-    let mut changed = String::new(alloc);
+// A text whose line `number`, counted from 1, is this one.
+fn with_line(alloc: Global, text: &[u8], number: usize, new: &[u8]) -> Result<Vec<u8>, AllocError> {
+    let mut changed = Vec::new(alloc);
     let mut k: usize = 0;
-    for old in text.lines() {
+    for old in Lines::new(text) {
         k = k.saturating_add(1);
-        let wanted = if k == number { line } else { Some(old) };
-        if let Some(new) = wanted {
-            changed.push_str(new)?;
-            changed.push('\n')?;
-        }
+        let line = if k == number { new } else { old };
+        changed.extend_from_slice(line)?;
+        changed.push(b'\n')?;
     }
     Ok(changed)
 }
@@ -126,7 +120,7 @@ fn refuses_changed_lines(rt: HostRuntime) -> Result<(), Fail> {
     ];
     let spelling = LogKind::Spelling;
     for (text, number, new, line) in rows {
-        let changed = with_line(rt.alloc(), text, number, Some(new))?;
+        let changed = with_line(rt.alloc(), text.as_bytes(), number, new.as_bytes())?;
         let wanted = Err(LogError::Line {
             line,
             kind: spelling,
