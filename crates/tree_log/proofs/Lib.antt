@@ -15,3 +15,4 @@ pub mod FileRuns
 pub mod TextCuts
 pub mod FileLines
 pub mod Completions
+pub mod RoundTrip

@@ -23,3 +23,9 @@ IsReading bytes (Ok f) = IsLogOf f bytes
 IsReading bytes (Err (Line line Spelling)) = IsSpelling bytes line
 IsReading bytes (Err (Line line NoEnd)) = IsNoEnd bytes line
 IsReading bytes (Err Memory) = Unit {0}
+
+-- what is read of the text of a log: this log, where there is memory
+abbrev pub IsReadAs : LogFile → Result LogFile LogError → Type 0
+IsReadAs f (Ok g) = g ≡ f
+IsReadAs f (Err (Line line kind)) = ⊥
+IsReadAs f (Err Memory) = Unit {0}

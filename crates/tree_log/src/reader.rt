@@ -1,7 +1,8 @@
 // Reads a log.
 ghost use Rattle.std.specs.Prelude.{◌≡◌, ◌≤◌, length};
 ghost use Rattle.tree_log.specs.Drafts as drafts;
-ghost use Rattle.tree_log.specs.Readings.{IsReading};
+ghost use Rattle.tree_log.specs.Logs.{IsLogOf};
+ghost use Rattle.tree_log.specs.Readings.{IsReading, IsReadAs};
 
 use crate::LogFile;
 use crate::draft::{Draft, Part, take_line};
@@ -35,12 +36,8 @@ fn finished(draft: Draft, rest: &[u8]) -> Option<LogFile>
     }
 }
 
-/// The log whose text some bytes, at most 1,073,741,824, are.
-///
-/// Where they are none, the answer is the first line that no log has behind the lines before it, counted from 1;
-/// lines are those that end with a line feed. Where each line can stand where it does, but bytes follow the last
-/// line feed or the log isn't at its end, it is [`LogKind::NoEnd`] at one more than the number of lines.
-pub fn read_log(alloc: Global, bytes: &[u8]) -> Result<LogFile, LogError>
+// The log whose text the bytes are, or the first line that offends.
+fn read_lines(alloc: Global, bytes: &[u8]) -> Result<LogFile, LogError>
     requires { length bytes.now ≤ 1073741824 }
     ensures { IsReading bytes.now result }
 {
@@ -68,6 +65,21 @@ pub fn read_log(alloc: Global, bytes: &[u8]) -> Result<LogFile, LogError>
             kind: LogKind::NoEnd,
         }),
     }
+}
+
+/// The log whose text some bytes, at most 1,073,741,824, are.
+///
+/// Where they are none, the answer is the first line that no log has behind the lines before it, counted from 1;
+/// lines are those that end with a line feed. Where each line can stand where it does, but bytes follow the last
+/// line feed or the log isn't at its end, it is [`LogKind::NoEnd`] at one more than the number of lines.
+pub fn read_log(alloc: Global, bytes: &[u8]) -> Result<LogFile, LogError>
+    requires { length bytes.now ≤ 1073741824 }
+    ensures answer { IsReading bytes.now result }
+
+    // Each log is read, and as the one that it is.
+    ensures again { (f : LogFile) → IsLogOf f bytes.now → IsReadAs f result }
+{
+    read_lines(alloc, bytes)
 }
 
 #[cfg(test)]

@@ -125,11 +125,7 @@ fn refuses_changed_lines(rt: HostRuntime) -> Result<(), Fail> {
             line,
             kind: spelling,
         });
-        assert_eq!(rt;
-            answer(&rt, rt.alloc(), changed.as_bytes()),
-            wanted,
-            "at {new}"
-        );
+        assert_eq!(rt; answer(&rt, rt.alloc(), &changed), wanted, "at {new}");
     }
     Ok(())
 }

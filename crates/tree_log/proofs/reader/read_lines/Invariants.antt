@@ -1,7 +1,7 @@
 use Rattle.std.proofs.Common.{length, ◌≤◌}
 use Rattle.tree_log.specs.Drafts.{draft_of}
 use Rattle.tree_log.proofs.Runs.{Reached}
-use Rattle.tree_log.proofs.reader.read_log.Given as goal
+use Rattle.tree_log.proofs.reader.read_lines.Given as goal
 
 abbrev pub invariant-loop-text : goal.invariant-loop-text
 invariant-loop-text l = record { reached : Reached l.bytes l.rest l.line (draft_of l.draft); few : length l.bytes ≤ 1073741824 }
