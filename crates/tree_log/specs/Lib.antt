@@ -6,3 +6,4 @@ pub mod LineWords
 pub mod Reads
 pub mod Drafts
 pub mod Readings
+pub mod Laws

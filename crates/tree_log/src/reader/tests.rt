@@ -8,16 +8,16 @@ use std::process::Abort;
 use std::test::Fail;
 
 // A line of this text may be changed.
-const FOUR: &str =
-    "scenlog 1\nsize 4 2 1 1\nclaim optimal -7 1 2\nclaim optimal -4 0 2\nclaim optimal -10 2 0\nclaim infeasible\nleaf\nsteps 2 0 0 U 0 1 U\nvector 2 1 0 -3\nvector 1 1 0 -2\nverdicts b0 b0 b1 e\nend\n";
+const FOUR: &[u8] =
+    b"scenlog 1\nsize 4 2 1 1\nclaim optimal -7 1 2\nclaim optimal -4 0 2\nclaim optimal -10 2 0\nclaim infeasible\nleaf\nsteps 2 0 0 U 0 1 U\nvector 2 1 0 -3\nvector 1 1 0 -2\nverdicts b0 b0 b1 e\nend\n";
 
-const PARITY: &str =
-    "scenlog 1\nsize 1 3 1 3\nclaim infeasible\nsplit 1 0 0\nstay 0\nsteps 0\nvector 1 0\nverdicts b0\nleaf\nsteps 2 0 1 L 0 2 L\nverdicts m0\nleaf\nsteps 2 0 1 U 0 2 U\nverdicts m0\nend\n";
+const PARITY: &[u8] =
+    b"scenlog 1\nsize 1 3 1 3\nclaim infeasible\nsplit 1 0 0\nstay 0\nsteps 0\nvector 1 0\nverdicts b0\nleaf\nsteps 2 0 1 L 0 2 L\nverdicts m0\nleaf\nsteps 2 0 1 U 0 2 U\nverdicts m0\nend\n";
 
-const WIDE: &str =
-    "scenlog 1\nsize 3 2 3 4\nclaim limit none -1152921504606846976\nclaim limit 1152921504606846976 -2 1000000 -1000000\nclaim infeasible\nsplit 1 1 -1000000\nstay 0 2\nsteps 1 2 1 L\nvector 1048576 2 0 -1099511627776 2 1099511627776\nverdicts f9 b0 p\nrest\nrest\nrest\nend\n";
+const WIDE: &[u8] =
+    b"scenlog 1\nsize 3 2 3 4\nclaim limit none -1152921504606846976\nclaim limit 1152921504606846976 -2 1000000 -1000000\nclaim infeasible\nsplit 1 1 -1000000\nstay 0 2\nsteps 1 2 1 L\nvector 1048576 2 0 -1099511627776 2 1099511627776\nverdicts f9 b0 p\nrest\nrest\nrest\nend\n";
 
-const BARE: &str = "scenlog 1\nsize 1 0 1 1\nclaim optimal 0\nleaf\nsteps 0\nverdicts p\nend\n";
+const BARE: &[u8] = b"scenlog 1\nsize 1 0 1 1\nclaim optimal 0\nleaf\nsteps 0\nverdicts p\nend\n";
 
 // The answer to a text: how many claims and nodes its log has, or why it is none.
 fn answer(rt: &impl Abort, alloc: Global, text: &[u8]) -> Result<(usize, usize), LogError> {
@@ -30,8 +30,8 @@ fn answer(rt: &impl Abort, alloc: Global, text: &[u8]) -> Result<(usize, usize),
 fn reads_worked_logs(rt: HostRuntime) -> Result<(), Fail> {
     let rows = [(FOUR, 4, 1), (PARITY, 1, 3), (WIDE, 3, 4), (BARE, 1, 1)];
     for (text, claims, nodes) in rows {
-        let read = answer(&rt, rt.alloc(), text.as_bytes());
-        assert_eq!(rt; read, Ok((claims, nodes)), "at {text}");
+        let read = answer(&rt, rt.alloc(), text);
+        assert_eq!(rt; read, Ok((claims, nodes)), "at {claims}");
     }
     Ok(())
 }
@@ -120,7 +120,7 @@ fn refuses_changed_lines(rt: HostRuntime) -> Result<(), Fail> {
     ];
     let spelling = LogKind::Spelling;
     for (text, number, new, line) in rows {
-        let changed = with_line(rt.alloc(), text.as_bytes(), number, new.as_bytes())?;
+        let changed = with_line(rt.alloc(), text, number, new.as_bytes())?;
         let wanted = Err(LogError::Line {
             line,
             kind: spelling,
@@ -132,7 +132,7 @@ fn refuses_changed_lines(rt: HostRuntime) -> Result<(), Fail> {
 
 #[test]
 fn asks_for_the_end(rt: HostRuntime) -> Result<(), Fail> {
-    let bytes = FOUR.as_bytes();
+    let bytes = FOUR;
     let mut feeds: u32 = 0;
     for end in 0..bytes.len() {
         if end > 0 && bytes[end - 1] == b'\n' {
@@ -156,14 +156,10 @@ fn looks_behind_the_end(rt: HostRuntime) -> Result<(), Fail> {
         ("end", 13, LogKind::NoEnd),
     ];
     for (more, line, kind) in rows {
-        let mut text = String::from_str(rt.alloc(), FOUR)?;
-        text.push_str(more)?;
+        let mut text = FOUR.to_vec(rt.alloc())?;
+        text.extend_from_slice(more.as_bytes())?;
         let wanted = Err(LogError::Line { line, kind });
-        assert_eq!(rt;
-            answer(&rt, rt.alloc(), text.as_bytes()),
-            wanted,
-            "at {more}"
-        );
+        assert_eq!(rt; answer(&rt, rt.alloc(), &text), wanted, "at {more}");
     }
     Ok(())
 }
