@@ -49,12 +49,13 @@ verdict_has_text rows (Farkas k) = nat_lt k 10
 verdict_has_text rows (Bound k) = nat_lt k 10
 verdict_has_text rows Point = true
 
-abbrev pub cert_has_text : LogFile → Cert → List Verdict → Bool
-cert_has_text f cert verdicts =
-    nat_le (length cert.steps) 128 && list_all (step_has_text f.columns f.rows) cert.steps
-    && nat_le (length cert.vectors) 2 && list_all (vector_has_text f.rows) cert.vectors
-    && nat_lt 0 (length verdicts) && nat_le (length verdicts) (length f.answers)
-    && list_all (verdict_has_text f.rows) verdicts
+-- the counts are those of the scenarios, the columns and the rows
+abbrev pub cert_has_text : ℕ → ℕ → ℕ → Cert → List Verdict → Bool
+cert_has_text scenarios columns rows cert verdicts =
+    nat_le (length cert.steps) 128 && list_all (step_has_text columns rows) cert.steps
+    && nat_le (length cert.vectors) 2 && list_all (vector_has_text rows) cert.vectors
+    && nat_lt 0 (length verdicts) && nat_le (length verdicts) scenarios
+    && list_all (verdict_has_text rows) verdicts
 
 -- ---- nodes
 
@@ -63,13 +64,13 @@ abbrev pub stay_has_text : ℕ → List ℕ → Bool
 stay_has_text scenarios stay = nat_lt 0 (length stay) && is_rising stay && list_all (λ k. nat_lt k scenarios) stay
 
 -- both children of a split are nodes
-abbrev pub node_has_text : LogFile → Node → Bool
-node_has_text f Rest = true
-node_has_text f (Leaf cert verdicts) = cert_has_text f cert verdicts
-node_has_text f (Split cert verdicts stay child column v) =
-    nat_lt 0 child && nat_lt (suc child) (length f.tree)
-    && nat_lt column f.columns && is_within (10 ^ 6) v
-    && stay_has_text (length f.answers) stay && cert_has_text f cert verdicts
+abbrev pub node_has_text : ℕ → ℕ → ℕ → ℕ → Node → Bool
+node_has_text scenarios columns rows nodes Rest = true
+node_has_text scenarios columns rows nodes (Leaf cert verdicts) = cert_has_text scenarios columns rows cert verdicts
+node_has_text scenarios columns rows nodes (Split cert verdicts stay child column v) =
+    nat_lt 0 child && nat_lt (suc child) nodes
+    && nat_lt column columns && is_within (10 ^ 6) v
+    && stay_has_text scenarios stay && cert_has_text scenarios columns rows cert verdicts
 
 -- ---- the whole
 
@@ -78,4 +79,5 @@ has_text f =
     nat_lt 0 (length f.answers) && nat_le (length f.answers) 64
     && nat_le f.columns 1000 && nat_le f.rows 1000
     && nat_lt 0 (length f.tree) && nat_le (length f.tree) 100001
-    && list_all (answer_has_text f.columns) f.answers && list_all (node_has_text f) f.tree
+    && list_all (answer_has_text f.columns) f.answers
+    && list_all (node_has_text (length f.answers) f.columns f.rows (length f.tree)) f.tree
