@@ -1,3 +1,3 @@
-mod SearchLemmas
 mod WordLemmas
 mod RunLemmas
+mod AnswerLemmas

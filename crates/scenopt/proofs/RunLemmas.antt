@@ -66,6 +66,13 @@ tried_by message old new (Ok u) a h = inl a
 tried_by message old new (Err Failed) a h = inr (inl (h.1, a))
 tried_by message old new (Err Memory) a h = inr (inr a)
 
+-- memory was wanting at a fetch, before its name was noted or behind that
+pub fetch_lacking : (input : Input) (file : Option (List ℕ)) (IsWhy : List ℕ → Type 0) (name : List ℕ) (old mid new : View) (r : Status) → ((mid.fetched ≡ old.fetched) ⊎ AddsNames old mid (name ∷ [])) → mid.warned ≡ old.warned → old.write_faults ≤ mid.write_faults → OnlyWarns mid new → Lacks mid new r → Stops input file IsWhy (name ∷ []) old new r
+fetch_lacking input file IsWhy name old mid new r (inl same) w f only l =
+    inr (record { status = l.status; warned = tries_since out_of_memory old mid new w f l.warned }, (0, (only.fetched ∙ same) ∙ names_none old.fetched))
+fetch_lacking input file IsWhy name old mid new r (inr asked) w f only l =
+    inr (record { status = l.status; warned = tries_since out_of_memory old mid new w f l.warned }, (1, names_kept old mid new (name ∷ []) asked only.fetched))
+
 -- a text that was fetched is refused
 pub stops_refused : (input : Input) (file : Option (List ℕ)) (IsWhy : List ℕ → Type 0) (names : List (List ℕ)) (old mid new : View) (message : List ℕ) (r : Status) → Fetches names old mid → Stays old mid → OnlyWarns mid new → IsWhy message → Tells (refused input) message mid new r → Stops input file IsWhy names old new r
 stops_refused input file IsWhy names old mid new message r f s w why t =
@@ -155,7 +162,8 @@ runs_solve words inputs old new r is s files = record {
 -- a report behind names that were asked for before
 reports_since : (p : Scenarios) (names : List (List ℕ)) (old mid new : View) (r : Status) → Fetches names old mid → Stays old mid → Reports p mid new r → Reports p old new r
 reports_since p names old mid new status.Done f s (text, is, printed, warned) = (text, is, adds_since old.printed mid.printed new.printed text s.printed printed, warned ∙ f.warned)
-reports_since p names old mid new status.WriteFault f s (rose, (text, is, printed, warned)) = (rose_since old.write_faults mid.write_faults new.write_faults s.write_faults rose, (text, is, front_since old.printed mid.printed new.printed text s.printed printed, tries_since unwritable old mid new f.warned s.write_faults warned))
+reports_since p names old mid new status.Limit f s (text, is, printed, warned) = (text, is, adds_since old.printed mid.printed new.printed text s.printed printed, warned ∙ f.warned)
+reports_since p names old mid new status.WriteFault f s (rose, (text, limited, is, printed, warned)) = (rose_since old.write_faults mid.write_faults new.write_faults s.write_faults rose, (text, limited, is, front_since old.printed mid.printed new.printed text s.printed printed, tries_since unwritable old mid new f.warned s.write_faults warned))
 reports_since p names old mid new status.Memory f s (printed, warned) = (printed ∙ s.printed, tries_since out_of_memory old mid new f.warned s.write_faults warned)
 reports_since p names old mid new status.Usage f s e = absurd e
 reports_since p names old mid new status.ModelRefused f s e = absurd e

@@ -47,10 +47,5 @@ fn is_limit(answer: &Answer) -> bool
 pub(crate) fn has_limit(answers: &Answers) -> bool
     ensures { result ≡ list_any spec.is_limit answers.now }
 {
-    for answer in answers.as_slice() {
-        if is_limit(answer) {
-            return true;
-        }
-    }
-    false
+    answers.as_slice().iter().any(|answer| is_limit(answer))
 }
