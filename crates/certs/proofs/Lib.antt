@@ -17,3 +17,4 @@ pub mod LevelLists
 pub mod StayerLemmas
 pub mod RaiseLaws
 pub mod LimitLaws
+pub mod ArrivalLemmas

@@ -6,6 +6,7 @@
 //! `laws` has what is proved of these definitions.
 #![tactic(auto)]
 
+mod arriving;
 mod cert;
 mod judging;
 pub mod laws;
@@ -17,6 +18,7 @@ mod stayers;
 mod tree;
 mod verdict;
 
+pub use arriving::{children_levels, start_levels};
 pub use cert::Cert;
 pub use judging::{bound_level, farkas_level, judge};
 pub use level::Level;

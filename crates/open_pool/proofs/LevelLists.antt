@@ -10,7 +10,7 @@ use Rattle.bb_core.specs.Coverage.{ReachesCaps}
 use Rattle.certs.specs.declared.level.Level.TheVariants.{Inf}
 use Rattle.certs.specs.declared.level.Level.{Level}
 use Rattle.certs.proofs.TreeLaws.{kept_at, dropped_at}
-use Rattle.certs.proofs.LevelLists.{length_live}
+use Rattle.certs.proofs.LevelLists.{length_live, length_kept, list_same}
 
 from_zero : (k : ℕ) → 0 + k ≡ k
 from_zero k = omega arith
@@ -27,22 +27,9 @@ dropped_none stay ls k h = sym (dropped_at stay 0 ls k ∙ ap (λ (n : ℕ). con
 pub dropped_some : (stay : List ℕ) (ls : List (Option Level)) (k : ℕ) → list_any (nat_eq k) stay ≡ false → slice_index_or ls k None ≡ slice_index_or (dropped stay 0 ls) k None
 dropped_some stay ls k h = sym (dropped_at stay 0 ls k ∙ ap (λ (n : ℕ). cond (list_any (nat_eq n) stay) None (slice_index_or ls k None)) (from_zero k) ∙ ap (λ (b : Bool). cond b None (slice_index_or ls k None)) h)
 
-pub length_kept : (stay : List ℕ) (j : ℕ) (ls : List (Option Level)) → length (kept stay j ls) ≡ length ls
-length_kept stay j [] = refl
-length_kept stay j (l ∷ ls) = ap suc (length_kept stay (suc j) ls)
-
 pub length_dropped : (stay : List ℕ) (j : ℕ) (ls : List (Option Level)) → length (dropped stay j ls) ≡ length ls
 length_dropped stay j [] = refl
 length_dropped stay j (l ∷ ls) = ap suc (length_dropped stay (suc j) ls)
-
--- lists that agree at each place
-pub list_same : {X : Type 0} (xs ys : List (Option X)) → length xs ≡ length ys → ((k : ℕ) → k < length xs → slice_index_or xs k None ≡ slice_index_or ys k None) → xs ≡ ys
-list_same [] [] e h = refl
-list_same [] (y ∷ ys) e h = absurd (omega arith)
-list_same (x ∷ xs) [] e h = absurd (omega arith)
-list_same (x ∷ xs) (y ∷ ys) e h =
-    let first : x ≡ y = h 0 (omega arith) in
-    let rest : xs ≡ ys = list_same xs ys (omega arith) (λ k l. h (suc k) (omega arith)) in cc
 
 pub same_length_live : (live other : List ℕ) (ls ms : List Level) → of_live live 0 ls ≡ of_live other 0 ms → length ls ≡ length ms
 same_length_live live other ls ms e = sym (length_live live 0 ls) ∙ ap length e ∙ length_live other 0 ms

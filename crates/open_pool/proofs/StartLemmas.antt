@@ -13,18 +13,6 @@ use Rattle.certs.specs.Trees.{of_live}
 use Rattle.bb_core.specs.Coverage.{open_at, root_slot}
 use Rattle.certs.proofs.SetLemmas.{in_any}
 
--- a list made item by item
-map_suc : {X Y : Type 0} (f : X → Y) (xs : List X) (k : ℕ) (d : X) → k < length xs → map f (take k xs) ++ f (slice_index_or xs k d) ∷ [] ≡ map f (take (suc k) xs)
-map_suc f [] k d l = absurd (omega arith)
-map_suc f (x ∷ xs) zero d l = refl
-map_suc {Y = Y} f (x ∷ xs) (suc k) d l = ap (λ (ys : List Y). f x ∷ ys) (map_suc f xs k d (omega arith))
-
-pub map_next : {X Y : Type 0} (f : X → Y) (xs : List X) (k : ℕ) (d : X) → k < length xs → map f (take k xs) ++ f (slice_index_or xs k d) ∷ [] ≡ map f (take (k + 1) xs)
-map_next f xs k d l = let n : suc k ≡ k + 1 = omega arith in map_suc f xs k d l ∙ ap (λ (j : ℕ). map f (take j xs)) n
-
-pub map_done : {X Y : Type 0} (f : X → Y) (xs : List X) (k : ℕ) → length xs ≤ k → map f (take k xs) ≡ map f xs
-map_done {X = X} f xs k l = ap (λ (ys : List X). map f ys) (take_all k xs l)
-
 -- where every scenario is live, each has its level
 live_all : (live : List ℕ) (j : ℕ) (f : Program → Level) (ss : List Program) → ((k : ℕ) → j ≤ k → k < j + length ss → list_any (nat_eq k) live ≡ true) → of_live live j (map f ss) ≡ map (λ (s : Program). Some (f s)) ss
 live_all live j f [] h = refl

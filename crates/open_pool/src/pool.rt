@@ -1,8 +1,6 @@
 // The pool of open nodes.
 ghost use Rattle.std.specs.Prelude.{◌≡◌, ◌<◌, ◌≤◌, ◌+◌, ℕ, true, false, length, map, vec_capacity, slice_set, slice_index_or, Some, IfOk, OnErr};
-ghost use Rattle.scenario_changes.specs.Problems.{root_box};
 ghost use Rattle.scenario_changes.specs.Problems as problems;
-ghost use Rattle.certs.specs.Verdicts as verdicts;
 ghost use Rattle.certs.specs.Claims.{bound_of};
 ghost use Rattle.certs.specs.Trees.{dropped};
 ghost use Rattle.certs.specs.Levels.{cap_level, lesser_level, LevelFits};
@@ -24,7 +22,7 @@ use crate::scan::{count_claimed, count_open, has_claimed, next_open, waiting_lea
 use crate::scratch::Scratch;
 use crate::slot::{Mark, Slot};
 use bb_core::{Outcome, Settlement, Work};
-use certs::{Level, Levels, Node, Tree, start_level};
+use certs::{Level, Node, Tree, start_levels};
 use live_sets::LiveSet;
 use scenario_changes::Problem;
 use std::alloc::{AllocError, Global};
@@ -444,18 +442,6 @@ fn stayers(outcome: &Outcome) -> LiveSet
         Outcome::Close => LiveSet::none(),
         Outcome::Split { stay, .. } => *stay,
     }
-}
-
-// The level where the search of each scenario starts.
-fn start_levels(alloc: Global, problem: &Problem) -> Result<Levels, AllocError>
-    ensures { IfOk result (λ levels. levels ≡ map (λ s. verdicts.start_level (root_box (problems.problem problem.now).scenarios) s) (problems.problem problem.now).scenarios) }
-{
-    let count = problem.count();
-    let mut levels = Vec::with_capacity(alloc, count as usize)?;
-    for s in 0..count {
-        levels.push_reserved(start_level(problem, s));
-    }
-    Ok(Levels::from_vec(levels))
 }
 
 // The root, open.

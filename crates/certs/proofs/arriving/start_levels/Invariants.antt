@@ -2,7 +2,7 @@ use Rattle.std.proofs.Common.{◌≡◌, ◌≤◌, length, map, take, vec_capac
 use Rattle.int_model.specs.Programs.{Program}
 use Rattle.scenario_changes.specs.Problems.{problem, root_box}
 use Rattle.certs.specs.Verdicts.{start_level}
-use Rattle.open_pool.proofs.pool.start_levels.Given as goal
+use Rattle.certs.proofs.arriving.start_levels.Given as goal
 
 abbrev pub invariant-loop-s : goal.invariant-loop-s
 invariant-loop-s l = record {

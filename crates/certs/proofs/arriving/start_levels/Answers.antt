@@ -4,8 +4,8 @@ use Rattle.int_model.specs.Programs.{Program}
 use Rattle.scenario_changes.specs.Problems.{problem, root_box, program_at}
 use Rattle.certs.specs.Verdicts.{start_level}
 use Rattle.certs.specs.declared.level.Level.{Level}
-use Rattle.open_pool.proofs.StartLemmas.{map_next, map_done}
-use Rattle.open_pool.proofs.pool.start_levels.Goals as goal
+use Rattle.certs.proofs.ArrivalLemmas.{map_next, map_done}
+use Rattle.certs.proofs.arriving.start_levels.Goals as goal
 
 pub loop-s-preserved : goal.loop-s-preserved
 loop-s-preserved c =
