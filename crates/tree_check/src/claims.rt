@@ -26,6 +26,7 @@ fn has_value(problem: &Problem, s: u32, point: &Point, value: i64) -> bool
     ensures yes { result ≡ true → HasValue (program_at (posed problem.now) s) point.now value }
     ensures no { result ≡ false → HasValue (program_at (posed problem.now) s) point.now value → ⊥ }
 {
+    let _count = problem.count();
     let x = point.as_slice();
     problem.meets(s, x) && problem.value(s, x) == value
 }

@@ -1,11 +1,12 @@
 // Whether what a node records is valid at its place.
 ghost use Rattle.std.specs.Prelude.{◌≡◌, ◌≤◌, ◌<◌, ◌&&◌, true, false, length, Some, is_some, All};
+ghost use Rattle.int_model.specs.Boxes.{is_empty};
 ghost use Rattle.tighten.specs.Steps.{IsStep};
 ghost use Rattle.scenario_changes.specs.Problems.{problem as posed};
 ghost use Rattle.certs.specs.Trees.{cert_fits, of_live, raised, splits_inside, stayers_hull};
 ghost use Rattle.certs.specs.Trees as trees;
 ghost use Rattle.certs.specs.Verdicts.{AllRowsBelow};
-ghost use Rattle.tree_check.specs.Walks.{HasRoom, IsJudged, IsWide, place_of};
+ghost use Rattle.tree_check.specs.Walks.{HasChildren, HasRoom, IsJudged, IsWide, place_of};
 
 use crate::arrival::Spot;
 use crate::scratch::Scratch;
@@ -74,6 +75,7 @@ fn is_split(
     ensures same { scratch.new.raised ≡ scratch.old.raised }
     ensures value { result ≡ splits_inside (stayers_hull (posed problem.now) bounds.now cert.now stay) column value }
     ensures hull { result ≡ true → stayers_hull (posed problem.now) bounds.now cert.now stay ≡ Some scratch.new.hull }
+    ensures occupied { result ≡ true → is_empty scratch.new.hull ≡ false }
 {
     let found = hull_stayers(
         problem,
@@ -102,6 +104,7 @@ pub(crate) fn is_valid(
     ensures room { HasRoom (posed problem.now) scratch.new }
     ensures value { result ≡ trees.is_valid (posed problem.now) count n (place_of spot.now) node.now }
     ensures judged { result ≡ true → IsJudged (posed problem.now) (place_of spot.now) node.now scratch.new }
+    ensures children { result ≡ true → HasChildren node.now count }
 {
     match node {
         Node::Rest => true,

@@ -1,9 +1,12 @@
 // The walk over the nodes of a log.
-ghost use Rattle.std.specs.Prelude.{◌≡◌, ◌<◌, ◌^◌, true, length, slice_index_or, slice_get, Some, None, IfOk, IfErr, IfSome};
+ghost use Rattle.std.specs.Prelude.{◌≡◌, ◌<◌, ◌^◌, length, slice_index_or, Some, None, true, false, IsTrue, IfOk, IfErr, IfSome};
 ghost use Rattle.scenario_changes.specs.Problems.{problem as posed};
 ghost use Rattle.certs.specs.Trees.{end_levels, root_place};
-ghost use Rattle.tree_check.specs.Walks.{IsJudged, IsStray, IsWalk, IsWide, place_of};
-ghost use Rattle.tree_check.specs.Walks as spec;
+ghost use Rattle.certs.specs.Levels.{level_le};
+ghost use Rattle.certs.specs.Claims as spec;
+ghost use Rattle.certs.specs.declared.level.Level.{Level as Bound};
+ghost use Rattle.tree_check.specs.Walks as walks;
+ghost use Rattle.tree_check.specs.Walks.{AreReached, IsBegun, IsFirstShort, IsJudged, IsShort, IsStray, IsWalk, IsWide, place_of};
 
 use crate::CheckError;
 use crate::arrival::{Arrival, Spot};
@@ -11,7 +14,7 @@ use crate::claims::claimed_level;
 use crate::handing::hand_on;
 use crate::judging::is_valid;
 use crate::scratch::Scratch;
-use certs::{Level, Levels, Node, is_member, live_level, start_level};
+use certs::{Level, Node, is_member, live_level, start_levels};
 use live_sets::LiveSet;
 use scenario_changes::{Answer, Problem};
 use std::alloc::{AllocError, Global};
@@ -21,20 +24,18 @@ fn root_spot(alloc: Global, problem: &Problem) -> Result<Spot, AllocError>
     ensures wide { IfOk result (IsWide (posed problem.now)) }
     ensures place { IfOk result (λ s. place_of s ≡ root_place (posed problem.now)) }
 {
-    let count = problem.count();
-    let mut levels = Vec::with_capacity(alloc, count as usize)?;
-    for s in 0..count {
-        levels.push(start_level(problem, s))?;
-    }
     Ok(Spot {
         bounds: problem.root(alloc)?,
-        live: LiveSet::full(count),
-        levels: Levels::from_vec(levels),
+        live: LiveSet::full(problem.count()),
+        levels: start_levels(alloc, problem)?,
     })
 }
 
 // The table of the nodes, of which the first one has its place.
-fn table_of(alloc: Global, problem: &Problem, count: usize) -> Result<Vec<Arrival>, AllocError> {
+fn table_of(alloc: Global, problem: &Problem, count: usize) -> Result<Vec<Arrival>, AllocError>
+    requires { 0 < count }
+    ensures { IfOk result (λ t. IsBegun (posed problem.now) count t.items) }
+{
     let mut table = Vec::with_capacity(alloc, count)?;
     table.push(Arrival::One(root_spot(alloc, problem)?))?;
     for _ in 1..count {
@@ -71,6 +72,18 @@ fn end_level(problem: &Problem, spot: &Spot, node: &Node, scratch: &Scratch, s: 
     }
 }
 
+// Whether the level at an end is below the level that an answer claims. Where there is no level, there is no
+// end.
+fn is_below(level: Option<Level>, answer: &Answer) -> bool
+    ensures yes { result ≡ true → IsShort level answer.now }
+    ensures no { result ≡ false → (l : Bound) → level ≡ Some l → IsTrue (level_le (spec.claimed_level answer.now) l) }
+{
+    match level {
+        Some(level) => !claimed_level(answer).is_at_most(level),
+        None => false,
+    }
+}
+
 // The first scenario whose level at an end is below the level that is claimed.
 fn first_below(
     problem: &Problem,
@@ -81,15 +94,29 @@ fn first_below(
 ) -> Option<u32>
     requires count { length answers.now ≡ length (posed problem.now).scenarios }
     requires judged { IsJudged (posed problem.now) (place_of spot.now) node.now scratch.now }
+    ensures some { IfSome result (IsFirstShort (posed problem.now) answers.now (place_of spot.now) node.now) }
+    ensures none { result ≡ None → AreReached (posed problem.now) answers.now (place_of spot.now) node.now }
 {
     for s in 0..problem.count() {
-        if let Some(level) = end_level(problem, spot, node, scratch, s)
-            && !claimed_level(&answers[s as usize]).is_at_most(level)
-        {
+        let level = end_level(problem, spot, node, scratch, s);
+        if is_below(level, &answers[s as usize]) {
             return Some(s);
         }
     }
     None
+}
+
+// The first end below its claim, where this is the scenario of that at node n.
+fn earlier(first: Option<(u32, u32)>, n: u32, s: Option<u32>) -> Option<(u32, u32)>
+    ensures { result ≡ walks.earlier first n s }
+{
+    match first {
+        Some(end) => Some(end),
+        None => match s {
+            Some(s) => Some((n, s)),
+            None => None,
+        },
+    }
 }
 
 /// Walks over the nodes. What it answers is the first end, by node and then by scenario, whose level is
@@ -118,12 +145,9 @@ pub(crate) fn walk(
         if !is_valid(problem, count, n, &spot, node, &mut scratch) {
             return Err(CheckError::Shape { node: n });
         }
-        if first.is_none()
-            && let Some(s) = first_below(problem, answers, &spot, node, &scratch)
-        {
-            first = Some((n, s));
-        }
-        hand_on(alloc, problem, node, &scratch, &mut table)?;
+        let short = first_below(problem, answers, &spot, node, &scratch);
+        first = earlier(first, n, short);
+        hand_on(alloc, problem, &spot, node, &scratch, &mut table)?;
     }
     Ok(first)
 }
