@@ -1,2 +1,3 @@
 mod PointLemmas
 mod WalkLemmas
+mod CheckLemmas

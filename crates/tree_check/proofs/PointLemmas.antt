@@ -1,5 +1,5 @@
 -- A feasible point has a number for each column, and each is small.
-use Rattle.std.specs.Prelude.{◌≡◌, ℕ, ◌<◌, ◌^◌, ℤ, ◌≤ℤ◌, List, [], ◌∷◌, length, All, Bool, true, IsTrue, ◌↔◌}
+use Rattle.std.specs.Prelude.{◌≡◌, ℕ, ◌<◌, ◌^◌, ℤ, ◌≤ℤ◌, List, [], ◌∷◌, length, All}
 use Rattle.std.proofs.Common.{arith, sym}
 use Rattle.std.proofs.lemmas.Int.{ints}
 use Rattle.std.proofs.lemmas.List.Elements.{All-nil, All-cons}

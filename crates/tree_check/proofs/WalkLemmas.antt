@@ -1,5 +1,5 @@
 -- The walk, one node at a time.
-use Rattle.std.specs.Prelude.{◌≡◌, ℕ, zero, suc, ◌+◌, ◌<◌, ◌≤◌, ℤ, List, [], ◌∷◌, ◌++◌, length, map, take, flat_map, slice_get, slice_set, slice_index_or, Bool, true, false, ◌||◌, ◌&&◌, cond, nat_eq, Option, Some, None, is_some, option_map, unwrap_or, refl, ◌⊎◌}
+use Rattle.std.specs.Prelude.{◌≡◌, ℕ, zero, suc, ◌+◌, ◌<◌, ◌≤◌, ℤ, List, [], ◌∷◌, ◌++◌, length, map, take, drop, flat_map, slice_get, slice_set, slice_index_or, Bool, true, false, ◌||◌, cond, nat_eq, Option, Some, None, IfSome, is_some, option_map, unwrap_or, refl, ◌⊎◌}
 use Rattle.std.specs.List.{list_any, list_all, range_with_len}
 use Rattle.std.proofs.Common.{arith, ap, sym, ◌∙◌, subst, inl, inr, append_assoc, append-nil, length-set}
 use Rattle.std.proofs.lemmas.Bool.{and_parts}
@@ -9,18 +9,21 @@ use Rattle.int_model.specs.Programs.{Program}
 use Rattle.scenario_changes.specs.Problems.{Problem, AreWithin, root_box}
 use Rattle.live_sets.proofs.RisingLists.{in_range-from}
 use Rattle.certs.specs.Verdicts.{start_level}
-use Rattle.certs.specs.Trees.{Place, root_place, of_live, is_live, raised, kept, dropped, two_places, children, handed_on, handed, arrivals, is_valid, IsTree, end_levels}
+use Rattle.certs.specs.Trees.{Place, root_place, of_live, is_live, raised, kept, dropped, two_places, children, handed_on, handed, arrivals, is_valid, end_levels}
 use Rattle.certs.specs.declared.cert.Cert.{Cert}
 use Rattle.certs.specs.declared.level.Level.{Level}
 use Rattle.certs.specs.declared.verdict.Verdict.{Verdict}
 use Rattle.certs.specs.declared.tree.Node.{Node}
-use Rattle.certs.specs.declared.tree.Node.TheVariants.{Rest, Leaf, Split}
+use Rattle.certs.specs.declared.tree.Node.TheVariants.{Split}
 use Rattle.certs.proofs.TreeLaws.{dropped_at, raised_at, handed-first, handed-second}
 use Rattle.certs.proofs.LevelLists.{length_live}
 use Rattle.certs.specs.Levels.{greater_level}
 use Rattle.certs.proofs.SetLemmas.{in_any}
 use Rattle.certs.proofs.ArrivalLemmas.{live_all, root_wide}
-use Rattle.tree_check.specs.Walks.{IsBegun, IsJudged, IsJudgedSplit, IsWide, HandsOn, HasChildren, StandsFor, place_of}
+use Rattle.tree_check.specs.Walks.{AreReached, IsBegun, IsFirstShort, IsJudged, IsJudgedSplit, IsWalk, IsWide, HandsOn, HasChildren, Remembers, StandsFor, WalkSoFar, earlier, place_of}
+use Rattle.tree_check.specs.Checks.{ComesBefore, IsEnd}
+use Rattle.tree_check.specs.Fronts.{IsFirstWrong, IsFront}
+use Rattle.scenario_changes.specs.declared.answer.Answer.{Answer}
 use Rattle.tree_check.specs.declared.arrival.Arrival.{Arrival}
 use Rattle.tree_check.specs.declared.arrival.Arrival.TheVariants.{Nothing, One, Many}
 use Rattle.tree_check.specs.declared.arrival.Spot.{Spot}
@@ -246,3 +249,219 @@ child_wide p s hull box live levels j i wide long e f = record {
   columns = ap length e ∙ length-set hull j i ∙ long;
   levels = f ∙ wide.levels;
 }
+
+-- ---- one node more
+
+arrivals_front : (p : Problem) (placed more : List (Node × Place)) (m : ℕ) → m ≤ length placed → arrivals p (placed ++ more) m ≡ arrivals p placed m
+arrivals_front p placed more zero h = refl
+arrivals_front p placed more (suc m) h = ap (flat_map (handed p (suc m))) (take_front placed more (suc m) h)
+
+arrivals_push : (p : Problem) (placed : List (Node × Place)) (e : Node × Place) (m : ℕ) → length placed < m → arrivals p (placed ++ e ∷ []) m ≡ arrivals p placed m ++ handed p m e
+arrivals_push p placed e zero h = absurd (omega arith)
+arrivals_push p placed e (suc m) h =
+    ap (flat_map (handed p (suc m))) (take_whole (placed ++ e ∷ []) (suc m) (omega (arith, h, pushed placed e)))
+    ∙ flat_push (handed p (suc m)) placed e
+    ∙ ap (λ (xs : List (Node × Place)). flat_map (handed p (suc m)) xs ++ handed p (suc m) e) (sym (take_whole placed (suc m) (omega (arith, h))))
+  where
+    pushed : (xs : List (Node × Place)) (x : Node × Place) → length (xs ++ x ∷ []) ≡ suc (length xs)
+    pushed [] x = refl
+    pushed (y ∷ xs) x = ap suc (pushed xs x)
+
+get_last : {X : Type 0} (xs : List X) (x : X) → slice_get (xs ++ x ∷ []) (length xs) ≡ Some x
+get_last [] x = refl
+get_last (y ∷ xs) x = get_last xs x
+
+get_before : {X : Type 0} (xs : List X) (x : X) (m : ℕ) → m < length xs → slice_get (xs ++ x ∷ []) m ≡ slice_get xs m
+get_before [] x m h = absurd (omega arith)
+get_before (y ∷ xs) x zero h = refl
+get_before (y ∷ xs) x (suc m) h = get_before xs x m (omega arith)
+
+pub walk_begun : (p : Problem) (answers : List Answer) (nodes : List Node) (table : List Arrival) → IsBegun p (length nodes) table → WalkSoFar p answers nodes 0 table None
+walk_begun p answers nodes table h = record {
+  placed = [];
+  walked = record {
+    before = refl;
+    front = record { arrival = λ n node place e. absurd (cc); valid = λ n node place e. absurd (cc) };
+    many = h.many;
+    waiting = λ m a l e. h.waiting m a e;
+  };
+  below = λ m j l e a g. (let w : None ≡ Some (e.node, e.place) = e.here in absurd (cc));
+}
+
+module _ (p : Problem) (answers : List Answer) (nodes : List Node) (n : ℕ) (table : List Arrival) (first : Option (ℕ × ℕ)) (h : WalkSoFar p answers nodes n table first) (node : Node) (here : slice_get nodes n ≡ Some node) where
+  placed_long : length h.placed ≡ n
+  placed_long =
+      let long : n < length nodes = get_below nodes n node here in
+      sym (map_length (λ (e : Node × Place). e.0) h.placed) ∙ ap length h.walked.before ∙ take_length nodes n (omega (arith, long))
+
+  -- node n isn't right, where it is valid at no place that is handed to it alone
+  pub walk_wrong : (a : Arrival) → slice_get table n ≡ Some a → ((places : List Place) → StandsFor p a places → (place : Place) → places ≡ place ∷ [] → is_valid p (length nodes) n place node ≡ false) → IsFirstWrong p nodes n
+  walk_wrong a e g = record {
+    placed = h.placed;
+    before = h.walked.before;
+    front = h.walked.front;
+    node = node;
+    here = here;
+    wrong = g (arrivals p h.placed n) (h.walked.waiting n a (omega arith) e);
+  }
+
+  module _ (s : Spot) (there : slice_get table n ≡ Some (One s)) (valid : is_valid p (length nodes) n (place_of s) node ≡ true) where
+    abbrev e : Node × Place
+    e = (node, place_of s)
+
+    abbrev placed : List (Node × Place)
+    placed = h.placed ++ e ∷ []
+
+    arrived : arrivals p h.placed n ≡ place_of s ∷ []
+    arrived = (h.walked.waiting n (One s) (omega arith) there).1
+
+    front : IsFront p (length nodes) placed
+    front = record {
+      arrival = λ m node' place q. elim (push_get h.placed e m (node', place) q) [
+        | inl r ↦ (
+            let at : m ≡ n = r.0 ∙ placed_long in
+            let same : place_of s ≡ place = (let w : e ≡ (node', place) = r.1 in ap (λ (z : Node × Place). z.1) w) in
+            arrivals_front p h.placed (e ∷ []) m (omega (arith, r.0)) ∙ ap (arrivals p h.placed) at ∙ arrived ∙ ap (λ (z : Place). z ∷ []) same)
+        | inr r ↦ arrivals_front p h.placed (e ∷ []) m (omega (arith, r.0)) ∙ h.walked.front.arrival m node' place r.1
+      ];
+      valid = λ m node' place q. elim (push_get h.placed e m (node', place) q) [
+        | inl r ↦ (
+            let at : n ≡ m = sym (r.0 ∙ placed_long) in
+            let w : e ≡ (node', place) = r.1 in
+            subst (λ (k : ℕ). is_valid p (length nodes) k place node' ≡ true) at (subst (λ (z : Node × Place). is_valid p (length nodes) n z.1 z.0 ≡ true) w valid))
+        | inr r ↦ h.walked.front.valid m node' place r.1
+      ];
+    }
+
+    earlier_end : (m j : ℕ) (l : Level) → IsEnd p h.placed m j l → IsEnd p placed m j l
+    earlier_end m j l q = record {
+      node = q.node;
+      place = q.place;
+      here = get_before h.placed e m (get_below h.placed m _ q.here) ∙ q.here;
+      level = q.level;
+    }
+
+    end_of : (m j : ℕ) (l : Level) → IsEnd p placed m j l → ((m ≡ n) × (slice_index_or (end_levels p (place_of s) node) j None ≡ Some l)) ⊎ ((m < n) × IsEnd p h.placed m j l)
+    end_of m j l q = elim (push_get h.placed e m (q.node, q.place) q.here) [
+      | inl r ↦ inl (r.0 ∙ placed_long, (let w : e ≡ (q.node, q.place) = r.1 in ap (λ (z : Node × Place). slice_index_or (end_levels p z.1 z.0) j None) w ∙ q.level))
+      | inr r ↦ inr (omega (arith, r.0, placed_long), record { node = q.node; place = q.place; here = r.1; level = q.level })
+    ]
+
+    new_end : (k : ℕ) (l : Level) → slice_index_or (end_levels p (place_of s) node) k None ≡ Some l → IsEnd p placed n k l
+    new_end k l q = record {
+      node = node;
+      place = place_of s;
+      here = ap (λ (m : ℕ). slice_get (h.placed ++ e ∷ []) m) (sym placed_long) ∙ get_last h.placed e;
+      level = q;
+    }
+
+    remember : (short : Option ℕ) → IfSome short (IsFirstShort p answers (place_of s) node) → (short ≡ None → AreReached p answers (place_of s) node) → (o : Option (ℕ × ℕ)) → Remembers p answers h.placed o → Remembers p answers placed (earlier o n short)
+    remember short some none (Some (m, k)) r = record {
+      level = r.level;
+      end = earlier_end m k r.level r.end;
+      claim = r.claim;
+      claimed = r.claimed;
+      below = r.below;
+      first = λ i j l b q. elim (end_of i j l q) [
+        | inl t ↦ absurd (omega (arith, t.0, before_or b, below_n m k r.level r.end))
+        | inr t ↦ r.first i j l b t.1
+      ];
+    }
+      where
+        before_or : {i j m k : ℕ} → ComesBefore i j m k → i ≤ m
+        before_or (inl q) = omega (arith, q)
+        before_or (inr q) = omega (arith, q.0)
+
+        below_n : (m k : ℕ) (l : Level) → IsEnd p h.placed m k l → m < n
+        below_n m k l q = omega (arith, get_below h.placed m _ q.here, placed_long)
+    remember None some none None r = λ m j l q. elim (end_of m j l q) [ inl t ↦ none refl j l t.1 | inr t ↦ r m j l t.1 ]
+    remember (Some k) some none None r = record {
+      level = some.short.level;
+      end = new_end k some.short.level some.short.is;
+      claim = some.claim;
+      claimed = some.claimed;
+      below = some.short.below;
+      first = λ i j l b q. elim (end_of i j l q) [
+        | inl t ↦ elim b [ inl u ↦ absurd (omega (arith, u, t.0)) | inr u ↦ some.first j l u.1 t.1 ]
+        | inr t ↦ r i j l t.1
+      ];
+    }
+
+    pub walk_next : (taken : Arrival) (new : List Arrival) (short : Option ℕ) (next : Option (ℕ × ℕ)) (k : ℕ) → HandsOn p node (place_of s) (slice_set table n taken) new → IfSome short (IsFirstShort p answers (place_of s) node) → (short ≡ None → AreReached p answers (place_of s) node) → next ≡ earlier first n short → k ≡ n + 1 → WalkSoFar p answers nodes k new next
+    walk_next taken new short next k hands some none is at = record {
+      placed = placed;
+      walked = record {
+        before = map_push (λ (z : Node × Place). z.0) h.placed e ∙ ap (λ (xs : List Node). xs ++ node ∷ []) h.walked.before ∙ take_next nodes n node here ∙ (let up : suc n ≡ k = omega (arith, at) in ap (λ (i : ℕ). take i nodes) up);
+        front = front;
+        many = hands.many ∙ length-set table n taken ∙ h.walked.many;
+        waiting = λ m b l f.
+            let long : m < length table = omega (arith, get_below new m b f, hands.many, length-set table n taken) in
+            let old = get_there table m long in
+            let kept : slice_get (slice_set table n taken) m ≡ Some old.0 = set_other table n taken m (λ q. omega (arith, q, l, at)) ∙ old.1 in
+            subst (λ (ps : List Place). StandsFor p b ps) (sym (arrivals_push p h.placed e m (omega (arith, placed_long, l, at)))) (hands.each m old.0 b (arrivals p h.placed m) kept f (h.walked.waiting m old.0 (omega (arith, l, at)) old.1));
+      };
+      below = subst (λ (o : Option (ℕ × ℕ)). Remembers p answers placed o) (sym is) (remember short some none first h.below);
+    }
+      where
+        set_other : {X : Type 0} (xs : List X) (n : ℕ) (y : X) (i : ℕ) → (i ≡ n → ⊥) → slice_get (slice_set xs n y) i ≡ slice_get xs i
+        set_other [] n y i q = refl
+        set_other (x ∷ xs) zero y zero q = absurd (q refl)
+        set_other (x ∷ xs) zero y (suc i) q = refl
+        set_other (x ∷ xs) (suc n) y zero q = refl
+        set_other (x ∷ xs) (suc n) y (suc i) q = set_other xs n y i (λ r. q (ap suc r))
+
+pub walk_done : (p : Problem) (answers : List Answer) (nodes : List Node) (n : ℕ) (table : List Arrival) (first : Option (ℕ × ℕ)) → WalkSoFar p answers nodes n table first → length nodes ≤ n → 0 < length nodes → IsWalk p answers nodes first
+walk_done p answers nodes n table first h l some = record {
+  placed = h.placed;
+  nodes_are = are;
+  tree = record {
+    some = omega (arith, some, long);
+    right = λ m node place e. record {
+      arrival = h.walked.front.arrival m node place e;
+      valid = subst (λ (c : ℕ). is_valid p c m place node ≡ true) (sym long) (h.walked.front.valid m node place e);
+    };
+  };
+  below = h.below;
+}
+  where
+    are : map (λ (e : Node × Place). e.0) h.placed ≡ nodes
+    are = h.walked.before ∙ take_whole nodes n l
+
+    long : length h.placed ≡ length nodes
+    long = sym (map_length (λ (e : Node × Place). e.0) h.placed) ∙ ap length are
+
+-- what stands for no place, or for two and more, is no place alone
+pub none_alone : (p : Problem) (places : List Place) (place : Place) → StandsFor p Nothing places → places ≡ place ∷ [] → ⊥
+none_alone p places place h e = let w : [] ≡ place ∷ [] = sym h ∙ e in absurd (cc)
+
+pub many_alone : (p : Problem) (places : List Place) (place : Place) → StandsFor p Many places → places ≡ place ∷ [] → ⊥
+many_alone p places place h e = omega (arith, h, ap length e)
+
+-- a slice that was handed on and back
+pub handed_back : (len : ℕ) (new old : List Arrival) → length new ≡ length old → length old ≡ len → take len (new ++ drop (length new) old) ≡ new
+handed_back len new old e f =
+    ap (λ (xs : List Arrival). take len (new ++ xs)) (drop_all old (length new) (omega (arith, e)))
+    ∙ ap (λ (xs : List Arrival). take len xs) (append-nil new)
+    ∙ take_whole new len (omega (arith, e, f))
+  where
+    drop_all : (xs : List Arrival) (k : ℕ) → length xs ≤ k → drop k xs ≡ []
+    drop_all [] zero l = refl
+    drop_all [] (suc k) l = refl
+    drop_all (x ∷ xs) zero l = absurd (omega arith)
+    drop_all (x ∷ xs) (suc k) l = drop_all xs k (omega arith)
+
+-- where the table has one place for the node, it is wide
+pub wide_here : (p : Problem) (answers : List Answer) (nodes : List Node) (n : ℕ) (table : List Arrival) (first : Option (ℕ × ℕ)) → WalkSoFar p answers nodes n table first → (s : Spot) → slice_get table n ≡ Some (One s) → IsWide p s
+wide_here p answers nodes n table first h s e = (h.walked.waiting n (One s) (omega arith) e).0
+
+pub not_alone : (a : Arrival) → ((s : Spot) → a ≡ One s → ⊥) → (p : Problem) (places : List Place) (place : Place) → StandsFor p a places → places ≡ place ∷ [] → ⊥
+not_alone Nothing h p places place g e = none_alone p places place g e
+not_alone (One s) h p places place g e = h s refl
+not_alone Many h p places place g e = many_alone p places place g e
+
+-- what isn't valid at the one place that is kept is valid at no place alone
+pub invalid_at : (p : Problem) (count n : ℕ) (node : Node) (s : Spot) (places : List Place) → StandsFor p (One s) places → (place : Place) → places ≡ place ∷ [] → is_valid p count n (place_of s) node ≡ false → is_valid p count n place node ≡ false
+invalid_at p count n node s places st place e h =
+    let both : place_of s ∷ [] ≡ place ∷ [] = sym st.1 ∙ e in
+    let same : place_of s ≡ place = cc in
+    subst (λ (z : Place). is_valid p count n z node ≡ false) same h

@@ -1,5 +1,5 @@
 -- What a check answers.
-use Rattle.std.specs.Prelude.{◌≡◌, ◌⊎◌, ℕ, ◌<◌, ◌^◌, ℤ, ◌<ℤ◌, false, List, length, map, slice_get, slice_index_or, Option, Some, None, Ok, Err, Result, IsTrue}
+use Rattle.std.specs.Prelude.{◌≡◌, ◌⊎◌, ℕ, ◌<◌, ◌^◌, ◌<ℤ◌, false, List, length, map, slice_get, slice_index_or, Some, None, Ok, Err, Result, IsTrue}
 use Rattle.scenario_changes.specs.Answers.{HasValue, RightAnswer}
 use Rattle.scenario_changes.specs.Problems.{Problem, program_at}
 use Rattle.scenario_changes.specs.declared.answer.Answer.{Answer}

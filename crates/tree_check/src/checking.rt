@@ -61,6 +61,8 @@ fn has_counts(problem: &Problem, log: &LogFile) -> bool
 pub fn check(alloc: Global, problem: &Problem, log: LogFile) -> Result<Answers, CheckError>
     ensures { IsChecked (posed problem.now) log result }
 {
+    // This call tells that the problem keeps the limits.
+    let _count = problem.count();
     if !has_counts(problem, &log) {
         return Err(CheckError::Shape { node: 0 });
     }

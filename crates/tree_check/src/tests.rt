@@ -52,7 +52,13 @@ fn model_of(
 // cost -5 of x, and x at least 3.
 fn capacities(rt: &impl Abort, alloc: Global) -> Result<Problem, Fail> {
     let columns = vec![in alloc; column(alloc, b'x', -3, 3)?, column(alloc, b'y', -2, 3)?]?;
-    let model = model_of(alloc, columns, RowSense::L, 4, vec![in alloc; (0, 2), (1, 1)]?)?;
+    let model = model_of(
+        alloc,
+        columns,
+        RowSense::L,
+        4,
+        vec![in alloc; (0, 2), (1, 1)]?,
+    )?;
     let mut changes = Changes::new(alloc, &model)?;
     changes.set_num_scenarios(4)?;
     changes.select(1)?;
@@ -115,7 +121,11 @@ fn answers_with(alloc: Global, change: Change) -> Result<Answers, AllocError> {
     } else {
         answers.push(optimal(alloc, 0, 2, -4)?)?;
     }
-    let value = if change == Change::ValueTooLow { -11 } else { -10 };
+    let value = if change == Change::ValueTooLow {
+        -11
+    } else {
+        -10
+    };
     answers.push(optimal(alloc, 2, 0, value)?)?;
     if change != Change::OneAnswerLess {
         answers.push(Answer::Infeasible)?;
@@ -174,7 +184,11 @@ fn tree_with(alloc: Global, change: Change) -> Result<Tree, Fail> {
 // The log of the capacities, with the change.
 fn log_with(alloc: Global, change: Change) -> Result<LogFile, Fail> {
     Ok(LogFile {
-        columns: if change == Change::OneColumnMore { 3 } else { 2 },
+        columns: if change == Change::OneColumnMore {
+            3
+        } else {
+            2
+        },
         rows: if change == Change::OneRowLess { 0 } else { 1 },
         answers: answers_with(alloc, change)?,
         tree: tree_with(alloc, change)?,

@@ -54,7 +54,13 @@ fn level_in(levels: &[Option<Level>], s: u32) -> Option<Level>
 }
 
 // The level of a scenario at a node that was judged, where the node is an end for it.
-fn end_level(problem: &Problem, spot: &Spot, node: &Node, scratch: &Scratch, s: u32) -> Option<Level>
+fn end_level(
+    problem: &Problem,
+    spot: &Spot,
+    node: &Node,
+    scratch: &Scratch,
+    s: u32,
+) -> Option<Level>
     requires { IsJudged (posed problem.now) (place_of spot.now) node.now scratch.now }
     ensures { result ≡ slice_index_or (end_levels (posed problem.now) (place_of spot.now) node.now) s None }
 {

@@ -1,12 +1,10 @@
-use Rattle.std.proofs.Common.{◌≡◌, ◌<◌, ◌+◌, ◌∷◌, [], ◌++◌, ap, sym, ◌∙◌, subst, arith, rules, ℕ, ℤ, suc, List, Option, Some, None, true, nat_eq, length, slice_index_or, slice_set, slice_get, length-set, FitsSigned, w32, to_z, of_z}
-use Rattle.std.specs.List.{list_any}
+use Rattle.std.proofs.Common.{◌≡◌, ◌<◌, ◌+◌, ◌∷◌, [], ◌++◌, sym, ◌∙◌, subst, arith, rules, ℕ, ℤ, suc, List, Option, Some, None, length, slice_index_or, slice_set, slice_get, length-set, FitsSigned, w32}
 use Rattle.std.proofs.lemmas.Int.{to_z-of_z}
 use Rattle.int_model.specs.Boxes.{below_cut, above_cut}
 use Rattle.scenario_changes.specs.Problems.{problem}
 use Rattle.certs.specs.Trees.{Place, kept}
 use Rattle.certs.specs.declared.level.Level.{Level}
-use Rattle.certs.specs.declared.tree.Node.{Node}
-use Rattle.tree_check.specs.Walks.{HandsOn, IsJudged, IsJudgedSplit, StandsFor, place_of}
+use Rattle.tree_check.specs.Walks.{HandsOn, IsJudged, StandsFor, place_of}
 use Rattle.tree_check.specs.declared.arrival.Arrival.{Arrival}
 use Rattle.tree_check.proofs.WalkLemmas.{stayers_raised, two_is, hands_on, children_below, place_is, get_of, child_wide}
 use Rattle.tree_check.proofs.handing.hand_on.Goals as goal

@@ -1,4 +1,3 @@
-use Rattle.std.proofs.Common.{◌≡◌, length}
 use Rattle.scenario_changes.specs.Problems.{problem}
 use Rattle.tree_check.specs.Walks.{IsBegun}
 use Rattle.tree_check.proofs.walk.table_of.Given as goal
