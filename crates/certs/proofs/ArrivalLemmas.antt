@@ -3,8 +3,13 @@ use Rattle.std.specs.Prelude.{◌≡◌, ℕ, zero, suc, ◌+◌, ◌<◌, ◌�
 use Rattle.std.specs.List.{list_any}
 use Rattle.std.proofs.Common.{arith, ap, sym, ◌∙◌, subst, inl, inr}
 use Rattle.std.proofs.lemmas.List.{take_all}
+use Rattle.int_model.specs.Boxes.{Box}
+use Rattle.int_model.specs.Programs.{Program}
+use Rattle.scenario_changes.specs.Problems.{Problem, AreWithin, root_box}
 use Rattle.certs.specs.Trees.{kept, of_live}
 use Rattle.certs.specs.declared.level.Level.{Level}
+use Rattle.certs.proofs.ClaimLaws.{all_within}
+use Rattle.certs.proofs.TreeLaws.{AllLength, length-hull_of}
 use Rattle.certs.proofs.LevelLists.{live_at, live_kept, kept_none, kept_some}
 
 -- a list made item by item
@@ -109,3 +114,23 @@ pub index_other : {X : Type 0} (xs : List X) (k : ℕ) (d e : X) → k < length 
 index_other [] k d e l = absurd (omega arith)
 index_other (x ∷ xs) zero d e l = refl
 index_other (x ∷ xs) (suc k) d e l = index_other xs k d e (omega arith)
+
+-- ---- the first node
+
+-- where every scenario is live, each has its level
+pub live_all : (live : List ℕ) (j : ℕ) (f : Program → Level) (ss : List Program) → ((k : ℕ) → j ≤ k → k < j + length ss → list_any (nat_eq k) live ≡ true) → of_live live j (map f ss) ≡ map (λ (s : Program). Some (f s)) ss
+live_all live j f [] h = refl
+live_all live j f (s ∷ ss) h =
+    ap (λ b. cond b (Some (f s)) None ∷ of_live live (suc j) (map f ss)) (h j (omega arith) (omega arith))
+    ∙ ap (λ (ls : List (Option Level)). Some (f s) ∷ ls) (live_all live (suc j) f ss (λ k a b. h k (omega arith) (omega arith)))
+
+bounds_long : (n : ℕ) (ss : List Program) → ((k : ℕ) (s : Program) → slice_get ss k ≡ Some s → length s.bounds ≡ n) → AllLength n (map (λ (s : Program). s.bounds) ss)
+bounds_long n [] h = tt
+bounds_long n (s ∷ ss) h = (h 0 s refl, bounds_long n ss (λ k t e. h (suc k) t e))
+
+root_long : (n : ℕ) (ss : List Program) → 0 < length ss → ((k : ℕ) (s : Program) → slice_get ss k ≡ Some s → length s.bounds ≡ n) → length (root_box ss) ≡ n
+root_long n [] l h = absurd (omega arith)
+root_long n (s ∷ ss) l h = length-hull_of n s.bounds (map (λ (t : Program). t.bounds) ss) (bounds_long n (s ∷ ss) h)
+
+pub root_wide : (p : Problem) → AreWithin p → length (root_box p.scenarios) ≡ p.columns
+root_wide p limits = root_long p.columns p.scenarios limits.some_scenario (λ k s e. (all_within p limits k s e).shape.bounds)

@@ -12,13 +12,7 @@ use Rattle.live_sets.proofs.RisingLists.{in_range-from}
 use Rattle.certs.specs.Trees.{of_live}
 use Rattle.bb_core.specs.Coverage.{open_at, root_slot}
 use Rattle.certs.proofs.SetLemmas.{in_any}
-
--- where every scenario is live, each has its level
-live_all : (live : List ℕ) (j : ℕ) (f : Program → Level) (ss : List Program) → ((k : ℕ) → j ≤ k → k < j + length ss → list_any (nat_eq k) live ≡ true) → of_live live j (map f ss) ≡ map (λ (s : Program). Some (f s)) ss
-live_all live j f [] h = refl
-live_all live j f (s ∷ ss) h =
-    ap (λ b. cond b (Some (f s)) None ∷ of_live live (suc j) (map f ss)) (h j (omega arith) (omega arith))
-    ∙ ap (λ (ls : List (Option Level)). Some (f s) ∷ ls) (live_all live (suc j) f ss (λ k a b. h k (omega arith) (omega arith)))
+use Rattle.certs.proofs.ArrivalLemmas.{live_all}
 
 pub root_is : (p : Problem) (box : Box) (live : List ℕ) (levels : List Level) (count : ℕ) → count ≡ length p.scenarios → box ≡ root_box p.scenarios → live ≡ range_with_len 0 count → levels ≡ map (λ (s : Program). start_level (root_box p.scenarios) s) p.scenarios → open_at box (of_live live 0 levels) ≡ root_slot p
 root_is p box live levels count n b l e =

@@ -7,7 +7,8 @@ use Rattle.int_model.specs.Programs.{Program}
 use Rattle.scenario_changes.specs.Problems.{Problem, AreWithin, root_box}
 use Rattle.certs.specs.Trees.{Place}
 use Rattle.certs.specs.declared.level.Level.{Level}
-use Rattle.certs.proofs.TreeLaws.{AllWithin, AllLength, length-hull_of}
+use Rattle.certs.proofs.TreeLaws.{AllWithin}
+use Rattle.certs.proofs.ArrivalLemmas.{root_wide}
 use Rattle.certs.proofs.TreeCounts.{stayers_hull-part, Inside-length}
 use Rattle.certs.proofs.ClaimLaws.{all_within}
 use Rattle.bb_core.specs.Settlements.{Settlement, Outcome, Close, Branch, place_of, recorded}
@@ -16,17 +17,6 @@ use Rattle.bb_core.proofs.ListWrites.{set-get, append-get}
 use Rattle.open_pool.specs.Marks.{claimed}
 use Rattle.open_pool.specs.Judged.{AreWide}
 use Rattle.open_pool.proofs.LawfulLaws.{branch_parts}
-
-bounds_long : (n : ℕ) (ss : List Program) → ((k : ℕ) (s : Program) → slice_get ss k ≡ Some s → length s.bounds ≡ n) → AllLength n (map (λ (s : Program). s.bounds) ss)
-bounds_long n [] h = tt
-bounds_long n (s ∷ ss) h = (h 0 s refl, bounds_long n ss (λ k t e. h (suc k) t e))
-
-root_long : (n : ℕ) (ss : List Program) → 0 < length ss → ((k : ℕ) (s : Program) → slice_get ss k ≡ Some s → length s.bounds ≡ n) → length (root_box ss) ≡ n
-root_long n [] l h = absurd (omega arith)
-root_long n (s ∷ ss) l h = length-hull_of n s.bounds (map (λ (t : Program). t.bounds) ss) (bounds_long n (s ∷ ss) h)
-
-pub root_wide : (p : Problem) → AreWithin p → length (root_box p.scenarios) ≡ p.columns
-root_wide p limits = root_long p.columns p.scenarios limits.some_scenario (λ k s e. (all_within p limits k s e).shape.bounds)
 
 pub wide_root : (p : Problem) → AreWithin p → AreWide p.columns (root_slot p ∷ [])
 wide_root p limits zero t e = let w : root_slot p ≡ t = cc in ap (λ (u : Slot). length u.place.box) (sym w) ∙ root_wide p limits

@@ -1,6 +1,6 @@
 use Rattle.std.proofs.Common.{arith, ◌∙◌, ap, length}
 use Rattle.scenario_changes.specs.Problems.{problem}
-use Rattle.open_pool.proofs.WideLemmas.{root_wide}
+use Rattle.certs.proofs.ArrivalLemmas.{root_wide}
 use Rattle.open_pool.proofs.scratch.Scratch.new.Goals as goal
 
 pub returns : goal.returns

@@ -1,0 +1,3 @@
+mod PointLemmas
+mod WalkLemmas
+mod CheckLemmas

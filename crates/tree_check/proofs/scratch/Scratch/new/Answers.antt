@@ -1,0 +1,13 @@
+use Rattle.std.proofs.Common.{arith, ◌∙◌, ap, length}
+use Rattle.scenario_changes.specs.Problems.{problem}
+use Rattle.certs.proofs.ArrivalLemmas.{root_wide}
+use Rattle.tree_check.proofs.scratch.Scratch.new.Goals as goal
+
+pub returns : goal.returns
+returns c =
+    let wide = root_wide (problem c.args.problem.now) c.count.ensures.limits in
+    record {
+      levels = omega (arith, c.in_ok-with_capacity.ensures.capacity, c.count.ensures.count);
+      replay = ap length c.in_ok-root.ensures ∙ wide;
+      hull = ap length c.in_ok-root-2.ensures ∙ wide;
+    }
