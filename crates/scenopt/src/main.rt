@@ -1,6 +1,8 @@
 //! Solves bounded pure integer models from MPS files.
 #![tactic(auto)]
 
+#[cfg(test)]
+mod compared;
 mod host_desk;
 mod input;
 mod message;
