@@ -137,7 +137,7 @@ enum Told {
     Limit,
 }
 
-fn told(answer: &Answer) -> Told {
+fn verdict_of(answer: &Answer) -> Told {
     match answer {
         Answer::Infeasible => Told::Nothing,
         Answer::Optimal { value, .. } => Told::Value(*value),
@@ -153,8 +153,8 @@ fn agree(alloc: Global, problem: &Problem) -> Result<bool, AllocError> {
         return Ok(false);
     }
     for k in 0..plain.len() {
-        let plain = plain.get(k).map(told);
-        let shared = shared.get(k).map(told);
+        let plain = plain.get(k).map(verdict_of);
+        let shared = shared.get(k).map(verdict_of);
         if plain != shared {
             return Ok(false);
         }
