@@ -1,11 +1,11 @@
 -- The words of the generator, and how many columns a row has.
-use Rattle.std.proofs.Common.{◌≡◌, ◌∙◌, ap, sym, refl, ℕ, zero, suc, ◌+◌, ◌-◌, ◌*◌, ◌/◌, ◌%◌, ◌<◌, ◌≤◌, Bool, true, false, nat_eq, nat_lt, List, [], ◌∷◌, ◌++◌, length, filter, arith, append_assoc, length-append}
-use Rattle.std.proofs.lemmas.Nat.{div-mul-add, mod-mul-add, div-add-mod', mod_below}
+use Rattle.std.proofs.Common.{◌≡◌, ◌∙◌, ap, sym, refl, ◌⊎◌, inl, inr, ℕ, zero, suc, ◌+◌, ◌-◌, ◌*◌, ◌/◌, ◌%◌, ◌<◌, ◌≤◌, min, Bool, true, false, nat_eq, nat_lt, List, [], ◌∷◌, ◌++◌, length, filter, arith, append_assoc, length-append}
+use Rattle.std.proofs.lemmas.Nat.{div-mul-add, mod-mul-add, div-add-mod', mod_below, le-div}
 use Rattle.std.proofs.lemmas.List.{append-nil}
 use Rattle.std.proofs.lemmas.List.Elements.{filter-append}
 use Rattle.std.specs.List.{range_with_len}
 use Rattle.rand_core.specs.Steps.{first_words}
-use Rattle.model_gen.specs.Draws.{size}
+use Rattle.model_gen.specs.Draws.{word, size, filled, demand_of, demand}
 
 -- ---- words
 
@@ -114,3 +114,83 @@ pub size_some : (columns rows i : ℕ) → i < rows → (size columns rows i ≡
 size_some columns rows i h some =
     let none : columns ≤ i → ⊥ = λ k. some (size_none columns rows i h k) in
     omega (arith, none)
+
+-- ---- rows that have columns
+
+-- what holds in either order of two numbers
+either_order : (a b : ℕ) (P : Type 0) → (a < b → P) → (b ≤ a → P) → P
+either_order a b P below above = elim (decided a b) [ inl h ↦ below h | inr h ↦ above h ]
+  where
+    decided : (a b : ℕ) → (a < b) ⊎ (b ≤ a)
+    decided a zero = inr (omega arith)
+    decided zero (suc b) = inl (omega arith)
+    decided (suc a) (suc b) = elim (decided a b) [ inl h ↦ inl (omega arith) | inr h ↦ inr (omega arith) ]
+
+counted_some : (q r columns i : ℕ) → i < columns → q ≡ 0 → r ≡ columns → 0 < q + one (nat_lt i r)
+counted_some q r columns i k e f = grind arith
+
+size_within : (columns rows i : ℕ) → i < columns → columns < rows → 0 < columns / rows + one (nat_lt i (columns % rows))
+size_within columns rows i k below =
+    let same : columns ≡ 0 * rows + columns = omega arith in
+    counted_some (columns / rows) (columns % rows) columns i k (ap (λ n. n / rows) same ∙ div-mul-add 0 rows columns below) (ap (λ n. n % rows) same ∙ mod-mul-add 0 rows columns below)
+
+size_past : (columns rows i : ℕ) → 0 < rows → rows ≤ columns → 0 < columns / rows + one (nat_lt i (columns % rows))
+size_past columns rows i some h =
+    let once : 1 * rows ≤ columns = omega arith in
+    let whole : 1 ≤ columns / rows = le-div 1 columns rows some once in
+    omega (arith, whole)
+
+size_positive : (columns rows i : ℕ) → i < rows → i < columns → 0 < size columns rows i
+size_positive columns rows i h k =
+    let within : columns < rows → 0 < size columns rows i = λ below. rw (← size_is columns rows i h) (size_within columns rows i k below) in
+    let past : rows ≤ columns → 0 < size columns rows i = λ above. rw (← size_is columns rows i h) (size_past columns rows i (omega arith) above) in
+    either_order columns rows (0 < size columns rows i) within past
+
+filled_more : (columns rows n : ℕ) → filled columns rows (suc n) ≡ filled columns rows n + one (nat_lt 0 (size columns rows n))
+unfolding filled
+filled_more columns rows n =
+    let p = λ (i : ℕ). nat_lt 0 (size columns rows i) in
+    ap (λ l. length (filter p l)) (range_more 0 n)
+    ∙ ap length (filter-append p (range_with_len 0 n) ((0 + n) ∷ []))
+    ∙ length-append (filter p (range_with_len 0 n)) (filter p ((0 + n) ∷ []))
+    ∙ ap (λ k. length (filter p (range_with_len 0 n)) + k) (ap (λ k. length (filter p (k ∷ []))) (omega arith) ∙ length-filter_one p n _ refl)
+
+next_filled : (f size : ℕ) → 0 < size → f + one (nat_lt 0 size) ≡ f + 1
+next_filled f size h = grind arith
+
+next_empty : (f size : ℕ) → size ≡ 0 → f + one (nat_lt 0 size) ≡ f
+next_empty f size h = grind arith
+
+-- they are the first rows
+pub filled_within : (columns rows n : ℕ) → n ≤ rows → n ≤ columns → filled columns rows n ≡ n
+unfolding filled
+filled_within columns rows zero h k = refl
+filled_within columns rows (suc n) h k =
+    filled_more columns rows n
+    ∙ next_filled (filled columns rows n) (size columns rows n) (size_positive columns rows n (omega arith) (omega arith))
+    ∙ ap (λ m. m + 1) (filled_within columns rows n (omega arith) (omega arith))
+    ∙ (omega arith)
+
+pub filled_past : (columns rows n : ℕ) → n ≤ rows → columns ≤ n → filled columns rows n ≡ columns
+filled_past columns rows zero h k = filled_within columns rows zero h (omega arith) ∙ (omega arith)
+filled_past columns rows (suc n) h k =
+    let at : suc n ≤ columns → filled columns rows (suc n) ≡ columns = λ g. filled_within columns rows (suc n) h g ∙ omega arith in
+    let past : columns < suc n → filled columns rows (suc n) ≡ columns = λ g. filled_more columns rows n ∙ next_empty (filled columns rows n) (size columns rows n) (size_none columns rows n (omega arith) (omega arith)) ∙ filled_past columns rows n (omega arith) (omega arith) in
+    either_order columns (suc n) (filled columns rows (suc n) ≡ columns) past at
+
+pub filled_all : (columns rows : ℕ) → filled columns rows rows ≡ min columns rows
+filled_all columns rows =
+    let within : rows ≤ columns → filled columns rows rows ≡ min columns rows = λ h. filled_within columns rows rows (omega arith) h ∙ omega arith in
+    let past : columns < rows → filled columns rows rows ≡ min columns rows = λ h. filled_past columns rows rows (omega arith) (omega arith) ∙ omega arith in
+    either_order columns rows (filled columns rows rows ≡ min columns rows) past within
+
+demand_of_some : (n w : ℕ) → (n ≡ 0 → ⊥) → 1 + w % (9 * n) ≡ demand_of n w
+demand_of_some zero w some = absurd (some refl)
+demand_of_some (suc n) w some = refl
+
+pub demand_some : (words : List ℕ) (columns rows i n : ℕ) → i < rows → n ≡ size columns rows i → (n ≡ 0 → ⊥) → 1 + word words (columns + i) % (9 * n) ≡ demand words columns rows i
+demand_some words columns rows i n h e some =
+    let within : i < columns = size_some columns rows i h (λ none. some (e ∙ none)) in
+    demand_of_some n (word words (columns + i)) some
+    ∙ ap (λ m. demand_of m (word words (columns + i))) e
+    ∙ ap (λ k. demand_of (size columns rows i) (word words (columns + k))) (sym (filled_within columns rows i (omega arith) (omega arith)))

@@ -1,7 +1,7 @@
 -- The numbers of a generated problem. Each is a draw: a word of the generator modulo the number of choices. The words
--- are used in the order in which the generator gives them, first one a column, then one a row that has columns, then
--- nine a scenario.
-use Rattle.std.specs.Prelude.{ℕ, zero, suc, ◌+◌, ◌*◌, ◌%◌, min, nat_eq, List, length, filter, slice_index}
+-- are used in the order in which the generator gives them: one for each column, then one for each row that has columns,
+-- then nine for each scenario.
+use Rattle.std.specs.Prelude.{ℕ, zero, suc, ◌+◌, ◌*◌, ◌%◌, nat_eq, nat_lt, List, length, filter, slice_index}
 use Rattle.std.specs.List.{range_with_len}
 use Rattle.rand_core.specs.Steps.{first_words}
 use Rattle.rand_core.specs.Pcg32Seed.{pcg32_seed}
@@ -30,13 +30,17 @@ demand_of (suc n) w = 1 + w % (9 * suc n)
 abbrev pub cost : List ℕ → ℕ → ℕ
 cost words j = cost_of (word words j)
 
--- the rows that have columns are the first ones, so that row i's word is the i-th after the costs
-abbrev pub demand : List ℕ → ℕ → ℕ → ℕ → ℕ
-demand words columns rows i = demand_of (size columns rows i) (word words (columns + i))
+-- how many of the first n rows have columns
+unfoldable pub filled : ℕ → ℕ → ℕ → ℕ
+filled columns rows n = length (filter (λ i. nat_lt 0 (size columns rows i)) (range_with_len 0 n))
 
--- the first word of scenario k
+-- the demands follow the costs, a word for each row that has columns
+abbrev pub demand : List ℕ → ℕ → ℕ → ℕ → ℕ
+demand words columns rows i = demand_of (size columns rows i) (word words (columns + filled columns rows i))
+
+-- the scenarios follow the demands, nine words each: this is the first word of scenario k
 abbrev pub first_word : ℕ → ℕ → ℕ → ℕ
-first_word columns rows k = columns + min columns rows + 9 * k
+first_word columns rows k = columns + filled columns rows rows + 9 * k
 
 -- how many kinds of change there are: without rows there is none of a right-hand side
 abbrev pub kinds : ℕ → ℕ

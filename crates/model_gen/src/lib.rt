@@ -4,6 +4,8 @@
 mod changes;
 mod model;
 mod parts;
+#[cfg(test)]
+mod tests;
 mod words;
 
 ghost use Rattle.std.specs.Prelude.{◌≡◌, ◌≤◌, IfOk};

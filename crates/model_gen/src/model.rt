@@ -57,12 +57,7 @@ fn push_column(out: &mut Vec<u8>, words: &[u32], rows: u32, j: u32) -> Result<()
     Ok(())
 }
 
-fn push_columns(
-    out: &mut Vec<u8>,
-    words: &[u32],
-    columns: u32,
-    rows: u32,
-) -> Result<(), AllocError>
+fn push_columns(out: &mut Vec<u8>, words: &[u32], columns: u32, rows: u32) -> Result<(), AllocError>
     requires { columns ≤ length words.now }
     ensures { OnOk result (out.new.items ≡ out.old.items ++ texts.for_each columns (texts.column_lines words.now rows)) }
 {
@@ -82,12 +77,7 @@ fn push_demand(out: &mut Vec<u8>, i: u32, demand: u32) -> Result<(), AllocError>
     Ok(())
 }
 
-fn push_demands(
-    out: &mut Vec<u8>,
-    words: &[u32],
-    columns: u32,
-    rows: u32,
-) -> Result<(), AllocError>
+fn push_demands(out: &mut Vec<u8>, words: &[u32], columns: u32, rows: u32) -> Result<(), AllocError>
     requires columns { columns ≤ 1000 }
     requires rows { rows ≤ 1000 }
     requires words { draws.first_word columns rows 0 ≤ length words.now }

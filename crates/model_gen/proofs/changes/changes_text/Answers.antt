@@ -1,4 +1,4 @@
-use Rattle.std.proofs.Common.{arith, ◌∙◌, ◌++◌, ap}
+use Rattle.std.proofs.Common.{◌∙◌, ◌++◌, ap}
 use Rattle.model_gen.specs.Texts as texts
 use Rattle.model_gen.proofs.TextLemmas.{each_begun, each_more, each_ended}
 use Rattle.model_gen.proofs.changes.changes_text.Goals as goal

@@ -1,5 +1,4 @@
 use Rattle.std.proofs.Common.{◌≡◌, ◌++◌}
-use Rattle.model_gen.specs.Draws as draws
 use Rattle.model_gen.specs.Texts as texts
 use Rattle.model_gen.proofs.model.push_bounds.Given as goal
 

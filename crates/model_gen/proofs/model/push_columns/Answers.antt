@@ -1,5 +1,3 @@
-use Rattle.std.proofs.Common.{◌≤◌}
-use Rattle.model_gen.specs.Draws as draws
 use Rattle.model_gen.specs.Texts as texts
 use Rattle.model_gen.proofs.TextLemmas.{each_begun, each_more, each_ended}
 use Rattle.model_gen.proofs.model.push_columns.Goals as goal

@@ -1,4 +1,4 @@
-use Rattle.std.proofs.Common.{◌≤◌, ◌∙◌, ◌++◌, ap}
+use Rattle.std.proofs.Common.{◌∙◌, ◌++◌, ap}
 use Rattle.model_gen.specs.Draws as draws
 use Rattle.model_gen.specs.Texts as texts
 use Rattle.model_gen.proofs.TextLemmas.{each_begun, each_more, each_ended}

@@ -1,4 +1,3 @@
-use Rattle.std.proofs.Common.{arith, ◌≤◌}
 use Rattle.rand_pcg.specs.Pcg.{pcg32}
 use Rattle.model_gen.proofs.DrawLemmas.{words_begun, words_more, words_ended}
 use Rattle.model_gen.proofs.words.draw_words.Goals as goal
