@@ -2,7 +2,7 @@
 use Rattle.std.specs.Prelude.{ℕ, zero, suc, ◌+◌, ◌*◌, ◌%◌, List, ◌++◌, [], ◌∷◌, codes, decimal, flat_map}
 use Rattle.std.specs.List.{range_with_len}
 use Rattle.num_text.specs.Words.{line}
-use Rattle.model_gen.specs.Draws.{word, size, cost, cost_of, demand, first_word, kinds}
+use Rattle.model_gen.specs.Draws.{words_of, word, size, cost, cost_of, demand, first_word, kinds}
 
 -- ---- names and lines
 
@@ -107,3 +107,15 @@ scenarios_line scenarios = line (codes "scenarios" ∷ decimal scenarios ∷ [])
 
 abbrev pub changes_text : List ℕ → ℕ → ℕ → ℕ → List ℕ
 changes_text words columns rows scenarios = scenarios_line scenarios ++ for_each scenarios (scenario_lines words columns rows)
+
+-- ---- both from a number
+
+-- as many words as the costs, the demands and all scenarios use
+abbrev pub words_used : ℕ → ℕ → ℕ → ℕ → List ℕ
+words_used seed columns rows scenarios = words_of seed (first_word columns rows scenarios)
+
+abbrev pub generated_model : ℕ → ℕ → ℕ → ℕ → List ℕ
+generated_model seed columns rows scenarios = model_text (words_used seed columns rows scenarios) columns rows
+
+abbrev pub generated_changes : ℕ → ℕ → ℕ → ℕ → List ℕ
+generated_changes seed columns rows scenarios = changes_text (words_used seed columns rows scenarios) columns rows scenarios
