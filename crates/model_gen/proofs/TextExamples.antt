@@ -10,7 +10,7 @@ use Rattle.model_gen.specs.Texts.{row_line, cost_line, entry_line, demand_line, 
 abbrev lines : List (List ℕ) → List ℕ
 lines ls = flat_map (λ l. l ++ 10 ∷ []) ls
 
--- the words of a small number, as `seed_from_u64` and `next_u32` of the Rust crate `rand_pcg` give them
+-- the first words of the number 7, calculated apart from the code by the steps of PCG's reference implementation
 words : words_of 7 3 ≡ 2442223337 ∷ 414063806 ∷ 2743600285 ∷ []
 unfolding first_words u32_at word_bytes pcg32_seed
 words = refl
