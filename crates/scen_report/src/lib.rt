@@ -1,9 +1,10 @@
 //! Writes the report of the answers to the scenarios of a problem, in the attributes of the Gurobi manual's
-//! Multiple Scenarios.
+//! Multiple Scenarios, and the summary for a generated problem.
 #![tactic(auto)]
 
 pub mod laws;
 mod scenario;
+mod summary;
 mod text;
 
 ghost use Rattle.std.specs.Prelude.{◌≡◌, ◌++◌, length, All, IfOk, OnOk};
@@ -14,6 +15,7 @@ use crate::scenario::push_scenario;
 use crate::text::push_count;
 use scenario_changes::{Answers, Problem};
 use std::alloc::{AllocError, Global};
+pub use summary::write_summary;
 
 // Appends what stands before the scenarios.
 #[tactic(auto, unfolding(crate::specs::Reports::head_lines))]

@@ -1,0 +1,4 @@
+pub mod DrawLemmas
+pub mod TextExamples
+pub mod TextLemmas
+pub mod TextLengths

@@ -1,0 +1,6 @@
+use Rattle.std.proofs.Common.{◌≡◌, ◌++◌}
+use Rattle.model_gen.specs.Texts as texts
+use Rattle.model_gen.proofs.model.push_columns.Given as goal
+
+abbrev pub invariant-loop-j : goal.invariant-loop-j
+invariant-loop-j l = l.out.items ≡ l.fn.out.items ++ texts.for_each l.j (texts.column_lines l.words l.rows)

@@ -1,0 +1,7 @@
+use Rattle.std.proofs.Common.{◌≡◌, ◌++◌}
+use Rattle.model_gen.specs.Draws as draws
+use Rattle.model_gen.specs.Texts as texts
+use Rattle.model_gen.proofs.model.push_demands.Given as goal
+
+abbrev pub invariant-loop-i : goal.invariant-loop-i
+invariant-loop-i l = l.out.items ≡ l.fn.out.items ++ texts.for_each l.i (λ i. texts.demand_line i (draws.demand l.words l.columns l.rows i))
