@@ -46,13 +46,14 @@ fn run(rt: &HostRuntime) -> io::Result<bool> {
 fn bytes_of(rt: &HostRuntime, name: &str, most: usize) -> io::Result<Vec<u8>> {
     let file = fs::open(rt, name)?;
     let mut bytes = Vec::new(rt.alloc());
-    file.take(most as u64 + 1).read_to_end(&mut bytes)?;
+    file.take((most as u64).saturating_add(1))
+        .read_to_end(&mut bytes)?;
     Ok(bytes)
 }
 
 fn print_count(rt: &HostRuntime, count: usize) -> io::Result<bool> {
     let mut text = Vec::new(rt.alloc());
-    write_number(&mut text, count as i64)?;
+    write_number(&mut text, i64::try_from(count).unwrap_or(i64::MAX))?;
     text.push(b'\n')?;
     rt.stdout().write_all(&text)?;
     Ok(true)
@@ -80,6 +81,10 @@ fn copy(rt: &HostRuntime, name: &str, bytes: &[u8]) -> io::Result<bool> {
     let Some(log) = log_of(rt, bytes) else {
         return Ok(false);
     };
+    let model = problem.model();
+    if log.columns != model.columns() || log.rows != model.rows() {
+        return Ok(false);
+    }
     let text = write_log(rt.alloc(), &problem, &log.answers, &log.tree)?;
     rt.stdout().write_all(&text)?;
     Ok(true)
