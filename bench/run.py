@@ -11,7 +11,7 @@ better one of `glpsol` and `glpsol --cuts` over ours. Then it prints a line for 
 geometric mean of that and the target. With --named it counts the nodes of the named instances instead.
 
 Times are processor times in milliseconds, the median over the tries, less the start-up of the process, which is the
-time on a model of one column. A peer has the limit for a scenario, and three times as much for all; one that
+time on a model of one column (a peer's is taken again beside each of its runs). A limit is one of real time. A peer has the limit for a scenario, and three times as much for all; one that
 is cut off there was given too little time, so the factor is then at least what is printed (`>`). A run of
 ours that needs more than its limit is told as `cut off`, and counts with the time that it took. OTHER with its words, if given,
 is called as `OTHER WORD.. MODEL CHANGES`, and what it prints as `nodes N` and its time stand beside ours.
@@ -20,11 +20,11 @@ import argparse
 import math
 import os
 import re
-import resource
 import statistics
 import subprocess
 import sys
 import tempfile
+import threading
 
 CLASSES = ["gen", "cov", "lot", "inf", "gap", "cap", "shf", "mkp", "cut"]
 TARGETS = {
@@ -58,16 +58,14 @@ ENDATA
 
 
 def call(words, limit):
-    """The processor time, the text that is written, and whether the process ended within the limit."""
+    """The processor time, the text that is written, and whether the process ended well within the limit."""
     with tempfile.TemporaryFile() as out:
-        bound = (math.ceil(limit), math.ceil(limit) + 1)
-        run = subprocess.Popen(
-            [str(word) for word in words],
-            stdout=out,
-            stderr=subprocess.DEVNULL,
-            preexec_fn=lambda: resource.setrlimit(resource.RLIMIT_CPU, bound),
-        )
+        # No function runs between fork and exec, since that would copy this process at the cost of the other one.
+        run = subprocess.Popen([str(word) for word in words], stdout=out, stderr=subprocess.DEVNULL)
+        timer = threading.Timer(limit, run.kill)
+        timer.start()
         _, status, usage = os.wait4(run.pid, 0)
+        timer.cancel()
         run.returncode = status
         out.seek(0)
         text = out.read().decode("latin1")
@@ -96,10 +94,10 @@ def glpk_value(text):
 class Peers:
     """The solvers that take each scenario by itself."""
 
-    def __init__(self, names, limit, start):
+    def __init__(self, names, limit, one):
         self.names = names
         self.limit = limit
-        self.start = start
+        self.one = one
 
     def total(self, name, files, tries):
         """The time on all files, the values, and whether all were solved."""
@@ -107,7 +105,7 @@ class Peers:
         spent, values = 0.0, []
         for file in files:
             time, text, _ = timed(["glpsol", "--freemps", file, *options], self.limit, tries)
-            spent += max(time - self.start, 0)
+            spent += time - timed(["glpsol", "--freemps", self.one], self.limit, tries)[0]
             values.append(glpk_value(text))
             if spent > 3 * self.limit:
                 break
@@ -238,9 +236,7 @@ def main():
             count_named(args, ours, folder)
             return
         names = [name for name in args.peers.split(",") if name]
-        peer_start = timed(["glpsol", "--freemps", one], args.peer_limit, 9)[0] if names else 0
-        peers = Peers(names, args.peer_limit, peer_start)
-        print(f"start-up {1000 * start:.1f} ms, peers {1000 * peer_start:.1f} ms", flush=True)
+        peers = Peers(names, args.peer_limit, one)
         measure_classes(args, ours, peers, folder)
 
 

@@ -9,6 +9,7 @@ mod bounding;
 mod climbs;
 mod deciding;
 mod dives;
+mod estimates;
 mod findings;
 mod hints;
 mod judging;

@@ -87,7 +87,9 @@ fn split_near(
             break;
         }
         if let Some((value, distance)) = fraction(*number, lows[j], highs[j]) {
-            let weight = mass(model, column, &multipliers).saturating_mul(distance);
+            // One more, so that columns of no mass differ by their distances.
+            let mass = mass(model, column, &multipliers).saturating_add(1);
+            let weight = mass.saturating_mul(distance);
             if best.is_none() || weight > greatest {
                 best = Some(Branch { column, value });
                 greatest = weight;
