@@ -4,27 +4,29 @@ usage: run.py PROGRAM GENERATOR [--classes C,..] [--sizes Z,..] [--scenarios N,.
               [--nodes NODES] [--limit S] [--peers glpk,cuts] [--peer-limit S] [--named] [--other WORD..]
 
 PROGRAM is the built program of the crate solve_rounds, and GENERATOR a program that is called as
-`GENERATOR FOLDER CLASS SIZE SCENARIOS SEED` and writes a model, its changes and one model a scenario. For each class, size,
-number of scenarios and seed it prints the nodes of the tree, the scenarios that are optimal, infeasible and a
+`GENERATOR FOLDER CLASS SIZE SCENARIOS SEED` and writes a model, its changes and one model a scenario. For each class,
+size, number of scenarios and seed it prints the nodes of the tree, the scenarios that are optimal, infeasible and a
 limit, the time, what all scenarios cost against the model alone, and how much faster than the peers the run was: the
-better one of `glpsol` and `glpsol --cuts` over ours. Then it prints a line for each class and number of scenarios, with the
-geometric mean of that and the target. With --named it counts the nodes of the named instances instead.
+better one of `glpsol` and `glpsol --cuts` over ours. `DIFFER` stands where they found another value. Then it prints a
+line for each class and number of scenarios, with the geometric mean of that and the target. With --named it counts the
+nodes of the named instances instead.
 
 Times are processor times in milliseconds, the median over the tries, less the start-up of the process, which is the
-time on a model of one column (a peer's is taken again beside each of its runs). A limit is one of real time. A peer has the limit for a scenario, and three times as much for all; one that
-is cut off there was given too little time, so the factor is then at least what is printed (`>`). A run of
-ours that needs more than its limit is told as `cut off`, and counts with the time that it took. OTHER with its words, if given,
-is called as `OTHER WORD.. MODEL CHANGES`, and what it prints as `nodes N` and its time stand beside ours.
+time on a model of one column (a peer's is taken again beside each of its runs). Limits are processor times too, in whole
+seconds. A peer has the limit for a scenario, and three times as much for all; where one is cut off, the factor is at
+least what is printed (`>`). A run of ours that needs more than its limit is told as `cut off`, and counts with the time
+that it took. OTHER with its words, if given, is called as `OTHER WORD.. MODEL CHANGES`, and what it prints as `nodes N`
+and its time, with its start-up, stand beside ours.
 """
 import argparse
 import math
 import os
 import re
+import resource
 import statistics
 import subprocess
 import sys
 import tempfile
-import threading
 
 CLASSES = ["gen", "cov", "lot", "inf", "gap", "cap", "shf", "mkp", "cut"]
 TARGETS = {
@@ -62,10 +64,9 @@ def call(words, limit):
     with tempfile.TemporaryFile() as out:
         # No function runs between fork and exec, since that would copy this process at the cost of the other one.
         run = subprocess.Popen([str(word) for word in words], stdout=out, stderr=subprocess.DEVNULL)
-        timer = threading.Timer(limit, run.kill)
-        timer.start()
+        seconds = math.ceil(limit)
+        resource.prlimit(run.pid, resource.RLIMIT_CPU, (seconds, seconds + 1))
         _, status, usage = os.wait4(run.pid, 0)
-        timer.cancel()
         run.returncode = status
         out.seek(0)
         text = out.read().decode("latin1")
@@ -191,9 +192,19 @@ def measure_classes(args, ours, peers, folder):
             ]
             factor, cost = mean(f for f, _ in found), mean(c for _, c in found)
             target = TARGETS.get(count, {}).get(kind)
-            word = "" if target is None else "met" if factor >= target else "missed"
-            table.append(f"{kind} {count:2} scenarios: factor {factor:.2f}, target {target} {word}, cost {cost:.1f} of one")
+            line = f"{kind} {count:2} scenarios: factor {factor:.2f}, cost {cost:.1f} of one"
+            if target is not None:
+                line += f", target {target} " + ("met" if factor >= target else "missed")
+            table.append(line)
     print("\n".join(table), flush=True)
+
+
+def judged(counts, target):
+    """What is said of a number of nodes, where each scenario must be closed."""
+    nodes, _, _, limits = counts
+    if limits or nodes > 2 * target:
+        return "missed"
+    return "met" if nodes <= target else "within twice"
 
 
 def count_named(args, ours, folder):
@@ -201,11 +212,12 @@ def count_named(args, ours, folder):
         words = name.split()
         model, changes, _ = generated(args.generator, folder, words)
         time, counts, _ = ours.run(model, changes)
-        if counts is None:
-            print("%-12s cut off" % "_".join(words), flush=True)
-            continue
-        word = "met" if counts[0] <= target and not counts[3] else "within twice" if counts[0] <= 2 * target and not counts[3] else "missed"
-        line = "%-12s %6d nodes %2d/%2d/%2d %9.1f ms, target %5d nodes: %s" % ("_".join(words), *counts, 1000 * time, target, word)
+        line = "%-12s " % "_".join(words)
+        if counts:
+            line += "%6d nodes %2d/%2d/%2d %9.1f ms" % (*counts, 1000 * time)
+            line += ", target %5d nodes: %s" % (target, judged(counts, target))
+        else:
+            line += "cut off after %.1f ms" % (1000 * time)
         print(line + (other_text(args.other, model, changes, args) if args.other else ""), flush=True)
 
 

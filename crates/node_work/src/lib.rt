@@ -24,6 +24,7 @@ mod starts;
 mod stayers;
 mod steps;
 mod verdicts;
+mod wide;
 
 pub use deciding::decide;
 pub use findings::Probe;
