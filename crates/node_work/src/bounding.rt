@@ -77,11 +77,8 @@ fn ray_of(
         return Ok(None);
     };
     let ray = without_scale(alloc, vector)?;
-    if standings.raise_by(problem, remaining, &ray) {
-        Ok(Some(ray))
-    } else {
-        Ok(None)
-    }
+    let shows = standings.raise_by(alloc, problem, remaining, &ray)?;
+    if shows { Ok(Some(ray)) } else { Ok(None) }
 }
 
 // One more vector, where the first one was made by a climb: its ray, or else what one more climb makes.
@@ -107,7 +104,7 @@ fn second_vector(
     }
     match climb_next(alloc, problem, work, cert, standings, made, Some(first))? {
         Some((vector, climb)) => {
-            standings.raise_by(problem, remaining, &vector);
+            standings.raise_by(alloc, problem, remaining, &vector)?;
             Ok((Some(vector), Some(climb)))
         }
         None => Ok((None, None)),
@@ -173,7 +170,7 @@ pub(crate) fn bound_all(
 {
     let (candidate, first) = first_candidate(alloc, problem, work, cert, standings)?;
     let vector = first_vector(alloc, problem, remaining, candidate)?;
-    standings.raise_by(problem, remaining, &vector);
+    standings.raise_by(alloc, problem, remaining, &vector)?;
     let mut vectors = Vectors::new(alloc);
     vectors.push(vector);
     let (more, second) = more_of(

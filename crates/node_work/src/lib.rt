@@ -9,6 +9,7 @@ mod bounding;
 mod climbs;
 mod deciding;
 mod dives;
+mod estimates;
 mod findings;
 mod hints;
 mod judging;
@@ -23,6 +24,7 @@ mod starts;
 mod stayers;
 mod steps;
 mod verdicts;
+mod wide;
 
 pub use deciding::decide;
 pub use findings::Probe;

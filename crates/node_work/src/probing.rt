@@ -40,6 +40,7 @@ pub fn probe(alloc: Global, problem: &Problem, work: &Work) -> Result<Probe, All
     let mut standings = Standings::new(alloc, problem, work, &remaining)?;
     let bounding = bound_all(alloc, problem, work, &cert, &remaining, &mut standings)?;
     let found = dive_open(alloc, problem, work, &cert, &standings, &bounding.first)?;
+    standings.lower_by(problem, &found);
     let split = split_of(alloc, problem, &remaining, &standings, &bounding)?;
     let Bounding {
         vectors,

@@ -6,6 +6,7 @@ use crate::climbs::Climb;
 use crate::peeling::peel;
 use crate::remaining::Remaining;
 use crate::standings::Standings;
+use crate::wide::split_wide;
 use branching::Branch;
 use dual_bounds::Vector;
 use int_model::Model;
@@ -13,7 +14,7 @@ use scenario_changes::Problem;
 use std::alloc::{AllocError, Global};
 
 // One, and the least distance from a whole number that counts, as near numbers.
-const ONE: i64 = 1 << 14;
+pub(crate) const ONE: i64 = 1 << 14;
 
 const LEAST: i64 = 1 << 8;
 
@@ -87,7 +88,9 @@ fn split_near(
             break;
         }
         if let Some((value, distance)) = fraction(*number, lows[j], highs[j]) {
-            let weight = mass(model, column, &multipliers).saturating_mul(distance);
+            // One more, so that columns of no mass differ by their distances.
+            let mass = mass(model, column, &multipliers).saturating_add(1);
+            let weight = mass.saturating_mul(distance);
             if best.is_none() || weight > greatest {
                 best = Some(Branch { column, value });
                 greatest = weight;
@@ -118,7 +121,7 @@ fn split_by(
 }
 
 /// Where to split: near the end of the first or else of the second climb, or else so that one part is dear
-/// for every scenario that is open. It is a hint, of which nothing is promised.
+/// for every scenario that is open, or else at a wide column. It is a hint, of which nothing is promised.
 pub(crate) fn split_of(
     alloc: Global,
     problem: &Problem,
@@ -134,8 +137,13 @@ pub(crate) fn split_of(
     if let Some(branch) = split_by(alloc, problem, standings, &bounding.second, second)? {
         return Ok(Some(branch));
     }
-    match first {
-        Some(vector) => peel(alloc, problem, remaining, standings, vector),
+    if let Some(vector) = first {
+        if let Some(branch) = peel(alloc, problem, remaining, standings, vector)? {
+            return Ok(Some(branch));
+        }
+    }
+    match &bounding.first {
+        Some(climb) => split_wide(alloc, problem, remaining, standings, climb),
         None => Ok(None),
     }
 }

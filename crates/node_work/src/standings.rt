@@ -3,11 +3,12 @@ ghost use Rattle.std.specs.Prelude.{◌≡◌, ◌<◌, length, IfSome, All};
 ghost use Rattle.scenario_changes.specs.Problems.{problem as posed};
 ghost use Rattle.dual_bounds.specs.Vectors.{RowsBelow};
 
+use crate::estimates::Estimate;
 use crate::remaining::Remaining;
-use crate::verdicts::shown_level;
 use bb_core::Work;
 use certs::Level;
 use dual_bounds::Vector;
+use int_model::Point;
 use scenario_changes::Problem;
 use std::alloc::{AllocError, Global};
 
@@ -69,6 +70,17 @@ fn cut_at(problem: &Problem, work: &Work, s: u32) -> Option<i64> {
         Some(cut) => *cut,
         None => None,
     }
+}
+
+// The value of a point in a scenario. It stops at the type's ends, which no point of a model reaches.
+fn value_of(problem: &Problem, s: u32, x: &[i32]) -> i64
+    requires { s < length (posed problem.now).scenarios }
+{
+    let mut value = problem.constant();
+    for (cost, number) in problem.costs(s).iter().zip(x) {
+        value = value.saturating_add(cost.saturating_mul(i64::from(*number)));
+    }
+    value
 }
 
 // Whether one key is less than another.
@@ -149,6 +161,26 @@ impl Standings {
         }
     }
 
+    // Lowers the value to undercut of a scenario.
+    fn lower(&mut self, s: u32, value: i64) {
+        if let Some(standing) = self.items.get_mut(s as usize) {
+            let cut = standing.cut.unwrap_or(i64::MAX);
+            standing.cut = Some(cut.min(value));
+        }
+    }
+
+    /// Lowers the values to undercut to those of the points that were found.
+    pub(crate) fn lower_by(&mut self, problem: &Problem, found: &[(u32, Point)]) {
+        let count = problem.count();
+        for i in 0..found.len() {
+            let entry = &found[i];
+            if entry.0 < count {
+                let value = value_of(problem, entry.0, entry.1.as_slice());
+                self.lower(entry.0, value);
+            }
+        }
+    }
+
     // Raises the level of a scenario.
     fn raise(&mut self, s: u32, level: Level) {
         if let Some(standing) = self.items.get_mut(s as usize) {
@@ -160,19 +192,21 @@ impl Standings {
     /// something of one.
     pub(crate) fn raise_by(
         &mut self,
+        alloc: Global,
         problem: &Problem,
         remaining: &Remaining,
         vector: &Vector,
-    ) -> bool
+    ) -> Result<bool, AllocError>
         requires columns { All (λ b. length b ≡ length problem.now.model.columns) remaining.now.boxes.items }
         requires rows { RowsBelow (length problem.now.model.rows) vector.now.entries }
     {
+        let estimate = Estimate::new(alloc, problem, vector)?;
         let mut shows = false;
         let mut k = 0;
         for s in 0..problem.count() {
             if remaining.scenarios.contains(s) && k < remaining.boxes.len() {
                 if self.is_open(s) {
-                    if let Some(level) = shown_level(problem, s, &remaining.boxes[k], vector) {
+                    if let Some(level) = estimate.level(problem, s, &remaining.boxes[k], vector) {
                         self.raise(s, level);
                         shows = true;
                     }
@@ -180,6 +214,6 @@ impl Standings {
                 k += 1;
             }
         }
-        shows
+        Ok(shows)
     }
 }

@@ -16,7 +16,7 @@ returns-clause-good c =
     let few : length c.from_vec.result ≤ 128 = omega (arith, ap length c.from_vec.ensures, c.in_ok-steps.ensures.few) in
     record {
       fits = fits-by c.args.problem.now (record { steps = c.from_vec.result; vectors = c.in_ok-bounding.bounding.vectors }) steps few c.in_ok-bounding.ensures.rows_below c.in_ok-bounding.ensures.few;
-      are_good = subst (λ (b : Box). EachLive (IsGoodVerdict (problem c.args.problem.now) b (record { steps = c.from_vec.result; vectors = c.in_ok-bounding.bounding.vectors }) c.in_ok-judgement.judgement.found.items) c.args.work.now.live c.in_ok-judgement.judgement.verdicts) c.deref-3.ensures c.in_ok-judgement.ensures.good;
+      are_good = subst (λ (b : Box). EachLive (IsGoodVerdict (problem c.args.problem.now) b (record { steps = c.from_vec.result; vectors = c.in_ok-bounding.bounding.vectors }) c.in_ok-judgement.judgement.found.items) c.args.work.now.live c.in_ok-judgement.judgement.verdicts) c.deref-4.ensures c.in_ok-judgement.ensures.good;
       are_found = c.in_ok-judgement.ensures.found;
     }
 
