@@ -13,27 +13,28 @@ struct Draws {
 }
 
 impl Draws {
-    fn next(&mut self, count: u64) -> u64 {
+    // A number below the count, 0 where that is 0.
+    fn next(&mut self, count: u32) -> u32 {
         self.state = self
             .state
             .wrapping_mul(6_364_136_223_846_793_005)
             .wrapping_add(1_442_695_040_888_963_407);
-        (self.state >> 33) % count.max(1)
+        u32::try_from(self.state >> 33).unwrap_or(0) % count.max(1)
     }
 
     // A number between the two.
     fn between(&mut self, low: i64, high: i64) -> i64 {
-        let width = high.saturating_sub(low).saturating_add(1);
-        low.saturating_add(self.next(width.unsigned_abs()) as i64)
+        let width = u32::try_from(high.saturating_sub(low)).unwrap_or(0);
+        low.saturating_add(i64::from(self.next(width.saturating_add(1))))
     }
 }
 
-fn name_of(alloc: Global, kind: u8, number: u64) -> Result<Name, AllocError> {
-    let digit = b'0'.saturating_add((number % 10) as u8);
+fn name_of(alloc: Global, kind: u8, number: u32) -> Result<Name, AllocError> {
+    let digit = b'0'.saturating_add(u8::try_from(number % 10).unwrap_or(0));
     Ok(Name::from_vec(vec![in alloc; kind, digit]?))
 }
 
-fn column_of(alloc: Global, draws: &mut Draws, number: u64) -> Result<ColumnPart, AllocError> {
+fn column_of(alloc: Global, draws: &mut Draws, number: u32) -> Result<ColumnPart, AllocError> {
     let low = draws.between(-2, 2);
     let high = low.saturating_add(draws.between(0, 3));
     Ok(ColumnPart {
@@ -45,18 +46,18 @@ fn column_of(alloc: Global, draws: &mut Draws, number: u64) -> Result<ColumnPart
     })
 }
 
-fn terms_of(alloc: Global, draws: &mut Draws, columns: u64) -> Result<Terms, AllocError> {
+fn terms_of(alloc: Global, draws: &mut Draws, columns: u32) -> Result<Terms, AllocError> {
     let mut terms = Vec::new(alloc);
     for column in 0..columns {
         let coefficient = draws.between(-3, 3);
         if coefficient != 0 {
-            terms.push((column as u32, coefficient))?;
+            terms.push((column, coefficient))?;
         }
     }
     Ok(Terms::from_vec(terms))
 }
 
-fn row_of(alloc: Global, draws: &mut Draws, number: u64, columns: u64) -> Result<Row, AllocError> {
+fn row_of(alloc: Global, draws: &mut Draws, number: u32, columns: u32) -> Result<Row, AllocError> {
     let sense = match draws.next(3) {
         0 => RowSense::L,
         1 => RowSense::G,
@@ -102,12 +103,12 @@ fn model_of(alloc: Global, draws: &mut Draws) -> Result<Model, Fail> {
 
 // Changes some cost, bound and right-hand side of the selected scenario.
 fn change(changes: &mut Changes, model: &Model, draws: &mut Draws) -> Result<(), Fail> {
-    let column = draws.next(u64::from(model.columns())) as u32;
+    let column = draws.next(model.columns());
     changes.set_obj(column, Some(draws.between(-5, 5)))?;
-    let column = draws.next(u64::from(model.columns())) as u32;
+    let column = draws.next(model.columns());
     changes.set_lb(column, Some(draws.between(-2, 2)))?;
     if model.rows() > 0 {
-        let row = draws.next(u64::from(model.rows())) as u32;
+        let row = draws.next(model.rows());
         changes.set_rhs(row, Some(Rhs::Value(draws.between(-4, 6))))?;
     }
     Ok(())
@@ -117,7 +118,7 @@ fn problem_of(alloc: Global, seed: u64) -> Result<Option<Problem>, Fail> {
     let mut draws = Draws { state: seed };
     let model = model_of(alloc, &mut draws)?;
     let mut changes = Changes::new(alloc, &model)?;
-    let count = draws.next(4) as u32;
+    let count = draws.next(4);
     changes.set_num_scenarios(count)?;
     for s in 0..count {
         changes.select(s)?;
