@@ -1,3 +1,4 @@
 mod PointLemmas
 mod WalkLemmas
 mod CheckLemmas
+mod RefusalLemmas

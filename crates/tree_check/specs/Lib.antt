@@ -1,3 +1,4 @@
 pub mod Fronts
 pub mod Checks
 pub mod Walks
+pub mod Laws

@@ -12,6 +12,7 @@ mod checking;
 mod claims;
 mod handing;
 mod judging;
+pub mod laws;
 mod scratch;
 mod walk;
 
