@@ -10,3 +10,6 @@ mod turning;
 
 pub use run::{Ended, run_alone};
 pub use turning::turn;
+
+#[cfg(test)]
+mod tests;
