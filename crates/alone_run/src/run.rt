@@ -29,9 +29,9 @@ pub struct Ended {
 /// and the best points allow.
 ///
 /// The answers are right, and the tree is accepted with them. It has at most as many nodes as the pool
-/// may have. An answer that is a limit is there only where the pool was stopped before, or where there
-/// is no room for two more nodes. Where the finder had a point of a scenario, the answer has one of at
-/// most its value.
+/// may have. An answer that is a limit is there only where somebody stopped the pool before, or where there
+/// is no room for two more nodes, and for a whole tree: that may have 2V - 1 nodes, where the root box has
+/// V points. Where the finder had a point of a scenario, the answer has one of at most its value.
 pub fn run_alone(
     alloc: Global,
     problem: &Problem,
@@ -100,7 +100,12 @@ fn step(
                 Settled::Halted | Settled::Stray => Ok(false),
             }
         }
-        Claim::Wait | Claim::Done | Claim::Stopped => Ok(false),
+        Claim::Wait | Claim::Done => Ok(false),
+        Claim::Stopped => {
+            // This call tells that a halted pool is full.
+            let _halted = pool.is_halted();
+            Ok(false)
+        }
     }
 }
 

@@ -29,7 +29,7 @@ returns c =
       first_sound = c.knows.ensures;
       worse = worse_then c.args.finder c.running.finder f i.finder c.in_ok-step.ensures.finder;
       caps = ready.caps;
-      over = over_from c.args.pool c.running.pool q i.stopped over;
+      over = over_from p c.args.pool c.running.pool q ready.pool i.stopped i.halted over;
       claims = c.in_ok-answers.ensures;
     } in
     subst (IsRun p c.args.pool c.args.finder c.in_ok-answers.answers) (sym c.into_tree.ensures) (is_run p c.args.pool c.args.finder q f c.in_ok-answers.answers end)

@@ -9,6 +9,7 @@ invariant-running l = record {
   finder : IsNoWorse l.initial.finder l.finder;
   nodes : l.pool.nodes ≡ l.initial.pool.nodes;
   stopped : l.pool.stopped ≡ l.initial.pool.stopped;
+  halted : l.pool.halted ≡ l.initial.pool.halted;
 }
 
 abbrev pub decreases-running : goal.decreases-running
