@@ -100,6 +100,7 @@ pub record IsEnd (p : Problem) (begun : Pooled) (first : Found) (q : Pooled) (f 
   pub many : length q.caps ≡ length p.scenarios
   pub within : length q.slots ≤ q.nodes
   pub nodes : q.nodes ≡ begun.nodes
+  pub grown : length begun.slots ≤ length q.slots
   pub problem : problems.problem f.problem ≡ p
   pub sound : IsSound f
   pub first_sound : IsSound first
@@ -185,6 +186,7 @@ module _ (p : Problem) (begun : Pooled) (first : Found) (q : Pooled) (f : Found)
     nodes_are = nodes_are q.slots;
     tree = h.covered.tree;
     within = omega (arith, length_nodes q.slots, h.within, h.nodes);
+    grown = omega (arith, length_nodes q.slots, h.grown);
     accepted = record {
       placed = placed_of q.slots;
       nodes_are = nodes_are q.slots;

@@ -306,8 +306,8 @@ pub stopped_over : (q : Pooled) → q.stopped ≡ true → (q.halted ≡ true �
 stopped_over q s h = by_mark q.halted refl
   where
     by_mark : (b : Bool) → q.halted ≡ b → IsOver q q
-    by_mark true e = record { nodes = refl; over = inr (inr (h e)) }
-    by_mark false e = record { nodes = refl; over = inr (inl (record { stopped = s; halted = e })) }
+    by_mark true e = record { nodes = refl; grown = omega arith; over = inr (inr (h e)) }
+    by_mark false e = record { nodes = refl; grown = omega arith; over = inr (inl (record { stopped = s; halted = e })) }
 
 -- ---- what a settlement makes of the pool: q0 is the pool before the claim, q2 before the settlement
 
@@ -354,6 +354,7 @@ module _ (q0 q2 q3 : Pooled) (n : ℕ) (held : IsHeld q0 q2 n) (free : HasNone q
       let zc = ap count_open none in
       record {
         nodes = nodes;
+        grown = omega (arith, l);
         stopped = ap (λ (q : Pooled). q.stopped) e ∙ held.stopped;
         halted = ap (λ (q : Pooled). q.halted) e ∙ held.halted;
         less = omega (arith, nodes, l, c, zl, zc);
@@ -369,6 +370,7 @@ module _ (q0 q2 q3 : Pooled) (n : ℕ) (held : IsHeld q0 q2 n) (free : HasNone q
       let l = long e in let c = opens e in
       record {
         nodes = nodes;
+        grown = omega (arith, l);
         stopped = ap (λ (q : Pooled). q.stopped) e ∙ held.stopped;
         halted = ap (λ (q : Pooled). q.halted) e ∙ held.halted;
         less = omega (arith, nodes, l, c, two, room, marked, held.nodes);
@@ -382,7 +384,7 @@ module _ (q0 q2 q3 : Pooled) (n : ℕ) (held : IsHeld q0 q2 n) (free : HasNone q
       let l = ap (λ (xs : List Slot). length xs) slots ∙ reopened_length q0.slots n free next in
       let marked = ap (λ (xs : List Slot). length xs) held.slots ∙ length_marked q0.slots n free next in
       let problem : q2.problem ≡ q3.problem = sym (ap (λ (q : Pooled). q.problem) e) in
-      record { nodes = nodes; over = inr (inr (subst (λ (p : Problem). IsFull p q3.nodes (length q3.slots)) problem (full_as q2.problem q2.nodes q3.nodes (length q2.slots) (length q3.slots) (omega (arith, nodes, held.nodes)) (omega (arith, l, marked)) h.2))) }
+      record { nodes = nodes; grown = omega (arith, l); over = inr (inr (subst (λ (p : Problem). IsFull p q3.nodes (length q3.slots)) problem (full_as q2.problem q2.nodes q3.nodes (length q2.slots) (length q3.slots) (omega (arith, nodes, held.nodes)) (omega (arith, l, marked)) h.2))) }
 
   pub halted_free : IsSettled q2 s q3 Halted → HasNone q3.slots claimed
   halted_free h =

@@ -63,12 +63,13 @@ pub record IsClaimed (p : Problem) (q : Pooled) (f : Found) (placed : List (Node
   pub reached : ReachedFrom p placed k (best_level (point_of a))
   pub limit : IsLimit a → IsStopped q ⊎ IsFull p q.nodes (length placed)
 
--- the answers and the nodes that a run of the pool q and the finder f ends with
+-- the answers and the nodes that a run of the pool q and the finder f ends with. No node of the pool is lost
 pub record IsRun (p : Problem) (q : Pooled) (f : Found) (answers : List Answer) (nodes : List Node) : Type 0 where
   pub placed : List (Node × Place)
   pub nodes_are : map (λ (e : Node × Place). e.0) placed ≡ nodes
   pub tree : IsTree p placed
   pub within : length nodes ≤ q.nodes
+  pub grown : length q.slots ≤ length nodes
   pub accepted : Accepted p answers nodes
   pub count : length answers ≡ length p.scenarios
   pub claims : (k : ℕ) (a : Answer) → slice_get answers k ≡ Some a → IsClaimed p q f placed k a

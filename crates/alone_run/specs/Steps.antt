@@ -1,5 +1,5 @@
 -- The steps of a run.
-use Rattle.std.specs.Prelude.{◌≡◌, ◌⊎◌, ◌<◌, ◌+◌, ◌-◌, ◌*◌, ℕ, ℤ, List, Option, Some, IfSome, length, slice_get, slice_index_or}
+use Rattle.std.specs.Prelude.{◌≡◌, ◌⊎◌, ◌<◌, ◌≤◌, ◌+◌, ◌-◌, ◌*◌, ℕ, ℤ, List, Option, Some, IfSome, length, slice_get, slice_index_or}
 use Rattle.scenario_changes.specs.Problems.{Problem, Scenarios}
 use Rattle.scenario_changes.specs.Problems as problems
 use Rattle.scenario_changes.specs.declared.answer.Answer.{Answer}
@@ -36,6 +36,7 @@ AreClosed slots = (n : ℕ) (t : Slot) → slice_get slots n ≡ Some t → t.ma
 -- a node was settled
 pub record GoesOn (before now : Pooled) : Type 0 where
   pub nodes : now.nodes ≡ before.nodes
+  pub grown : length before.slots ≤ length now.slots
   pub stopped : now.stopped ≡ before.stopped
   pub halted : now.halted ≡ before.halted
   pub less : weight now < weight before
@@ -43,6 +44,7 @@ pub record GoesOn (before now : Pooled) : Type 0 where
 -- each node is closed, or the pool was stopped before, or there is no room for two more nodes
 pub record IsOver (before now : Pooled) : Type 0 where
   pub nodes : now.nodes ≡ before.nodes
+  pub grown : length before.slots ≤ length now.slots
   pub over : AreClosed now.slots ⊎ (IsStopped before ⊎ IsFull now.problem now.nodes (length now.slots))
 
 -- the cap becomes the lesser of itself and the value of this code

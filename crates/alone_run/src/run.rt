@@ -109,8 +109,8 @@ fn step(
     }
 }
 
-// Lowers the pool's caps by the note's.
-fn lower_caps(problem: &Problem, pool: &mut Pool<'_>, note: &WordSeat)
+/// Lowers each cap of the pool to the note's, where that is less. It takes no memory.
+pub fn lower_caps(problem: &Problem, pool: &mut Pool<'_>, note: &WordSeat)
     requires pool { pool.old.problem ≡ posed problem.now }
     requires words { note.now.table.words ≡ length (posed problem.now).scenarios }
     ensures same { pool.new ≡ record pool.old { caps = pool.new.caps } }

@@ -1,4 +1,4 @@
-use Rattle.std.proofs.Common.{◌≡◌, ◌∙◌, sym, subst, ap, length, Ok}
+use Rattle.std.proofs.Common.{◌≡◌, ◌∙◌, sym, subst, ap, arith, length, Ok}
 use Rattle.scenario_changes.specs.Problems.{Problem, AreWithin, problem}
 use Rattle.bb_core.specs.Coverage.{Covers}
 use Rattle.open_pool.specs.Pooled.{Pooled}
@@ -24,6 +24,7 @@ returns c =
       many = c.is_covered.ensures.caps ∙ ap (λ (r : Problem). length r.scenarios) ready.pool;
       within = c.node_count-nodes.ensures.within;
       nodes = nodes;
+      grown = omega (arith, i.grown, over.grown);
       problem = ap problem ready.finder;
       sound = c.knows-2.ensures;
       first_sound = c.knows.ensures;
