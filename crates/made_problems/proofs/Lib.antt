@@ -1,0 +1,7 @@
+mod LineTexts
+mod NumberTexts
+mod NameTexts
+mod Triples
+mod ChangeLines
+mod SizeLaws
+mod ChangeTexts
