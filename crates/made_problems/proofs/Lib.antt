@@ -1,7 +1,15 @@
-mod LineTexts
-mod NumberTexts
-mod NameTexts
-mod Triples
-mod ChangeLines
-mod SizeLaws
-mod ChangeTexts
+pub mod LineTexts
+pub mod NumberTexts
+pub mod NameTexts
+pub mod Triples
+pub mod ChangeLines
+pub mod SizeLaws
+pub mod ChangeTexts
+pub mod ModelLines
+pub mod ModelFacts
+pub mod RowLines
+pub mod ColumnLines
+pub mod SideLines
+pub mod BoundLines
+pub mod ModelTexts
+pub mod Acceptance

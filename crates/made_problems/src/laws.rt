@@ -1,7 +1,8 @@
 //! Laws of the definitions. Each function has no code, and its contract is the law.
-ghost use Rattle.made_problems.specs.Laws.{ChangesAreAccepted};
+ghost use Rattle.made_problems.specs.Laws.{TextsAreAccepted};
 
-/// The changes text of each generated problem is accepted for a model that has the problem's columns and rows.
-pub fn changes_are_accepted()
-    ensures { ChangesAreAccepted }
+/// Both texts of each generated problem are accepted by their readers: the model text has a model, with the problem's
+/// columns and rows, and the changes text has changes of that model.
+pub fn texts_are_accepted()
+    ensures { TextsAreAccepted }
 {}
