@@ -1,11 +1,13 @@
 -- The changes text of a generated problem is accepted.
-use Rattle.std.proofs.Common.{◌≡◌, ◌∙◌, refl, ℕ, zero, suc, ◌+◌, ◌*◌, ◌%◌, ◌^◌, ◌<◌, ◌≤◌, true, false, List, [], ◌∷◌, ◌++◌, codes, None, Ok, arith, decimal}
-use Rattle.std.specs.List.{list_all, join_with_byte}
+use Rattle.std.proofs.Common.{◌≡◌, ◌∙◌, refl, ℕ, zero, suc, ◌+◌, ◌*◌, ◌%◌, ◌^◌, ◌<◌, ◌≤◌, true, false, List, [], ◌∷◌, ◌++◌, codes, length, None, Ok, arith, decimal}
+use Rattle.std.specs.List.{list_all, join_with_byte, range_with_len}
 use Rattle.std.proofs.lemmas.Nat.{mod_below}
+use Rattle.std.proofs.lemmas.List.{length-map}
+use Rattle.std.proofs.lemmas.List.FromFn.{length-range_with_len}
 use Rattle.num_text.specs.Words.{line, is_read}
 use Rattle.int_model.specs.Models.{IntegerModel}
 use Rattle.scenario_changes.specs.Changes.{ChangeSet}
-use Rattle.changes_reader.specs.ChangesText.{Line, is_empty, scenario_count, changes_of, changes_of_lines}
+use Rattle.changes_reader.specs.ChangesText.{Line, is_empty, scenario_count, changes_of, changes_of_lines, change_of}
 use Rattle.changes_reader.specs.Kinds.{line_kind}
 use Rattle.model_gen.specs.Draws.{word, size, cost_of, kinds, first_word}
 use Rattle.model_gen.specs.Texts.{column_name, row_name, new_cost_line, new_bound_line, new_demand_line, change_line, change_at, scenario_line, scenario_lines, scenarios_line, for_each, changes_text}
@@ -97,10 +99,11 @@ module _ (m : IntegerModel) (columns rows scenarios : ℕ) (names : HasNames col
       (change_at_leads words (first + 3)))
       (change_at_leads words (first + 6))
 
-pub changes_accepted : (m : IntegerModel) (words : List ℕ) (columns rows scenarios : ℕ) → 1 ≤ columns → columns ≤ 1000 → rows ≤ 1000 → scenarios ≤ 64 → HasNames columns rows m → (c : ChangeSet) × (changes_of m (changes_text words columns rows scenarios) ≡ Ok c)
+pub changes_accepted : (m : IntegerModel) (words : List ℕ) (columns rows scenarios : ℕ) → 1 ≤ columns → columns ≤ 1000 → rows ≤ 1000 → scenarios ≤ 64 → HasNames columns rows m → (c : ChangeSet) × (changes_of m (changes_text words columns rows scenarios) ≡ Ok c) × (length c.scenarios ≡ scenarios)
 unfolding IsStart
 changes_accepted m words columns rows scenarios some few_columns few_rows most names =
     let B : Place → Type 0 = IsBegun scenarios in
     let lines = each_leads (run m) (λ k. B) (scenario_lines words columns rows) scenarios (λ k h. scenario_lines_lead m columns rows scenarios names some few_columns few_rows (omega arith) words k h most) in
     let end = leads_to_end (run m) IsStart B (changes_text words columns rows scenarios) (one_then_other (run m) IsStart B B (scenarios_line scenarios) (for_each scenarios (scenario_lines words columns rows)) (scenarios_lead m scenarios most) lines) (record { number = 1; earlier = [] }) refl in
-    (changes_of_lines m end.0.earlier, end.2)
+    let counted : length (changes_of_lines m end.0.earlier).scenarios ≡ scenarios = length-map (range_with_len 0 (scenario_count end.0.earlier)) (change_of m end.0.earlier) ∙ length-range_with_len 0 (scenario_count end.0.earlier) ∙ end.1.count in
+    (changes_of_lines m end.0.earlier, end.2, counted)

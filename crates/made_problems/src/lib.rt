@@ -1,4 +1,9 @@
-//! What is proved of generated problems and their readers together.
+//! Generated problems, which their readers always accept.
 #![tactic(auto)]
 
 pub mod laws;
+mod problem;
+#[cfg(test)]
+mod tests;
+
+pub use problem::make_problem;
