@@ -13,3 +13,4 @@ pub mod SideLines
 pub mod BoundLines
 pub mod ModelTexts
 pub mod Acceptance
+pub mod MadeExamples
