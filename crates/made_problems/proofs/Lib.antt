@@ -1,0 +1,16 @@
+pub mod LineTexts
+pub mod NumberTexts
+pub mod NameTexts
+pub mod Triples
+pub mod ChangeLines
+pub mod SizeLaws
+pub mod ChangeTexts
+pub mod ModelLines
+pub mod ModelFacts
+pub mod RowLines
+pub mod ColumnLines
+pub mod SideLines
+pub mod BoundLines
+pub mod ModelTexts
+pub mod Acceptance
+pub mod MadeExamples
