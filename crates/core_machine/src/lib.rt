@@ -19,3 +19,6 @@ mod state;
 
 pub use event::{Event, StepError};
 pub use state::State;
+
+#[cfg(test)]
+mod tests;
