@@ -1,5 +1,6 @@
 //! Laws of the definitions. Each function has no code, and its contract is the law.
 ghost use Rattle.bb_core.specs.Laws.{CoveredHasBounds, CoveredLosesNothing, MarksKeepCoverage, RootIsCovered, SettlingKeepsCoverage};
+ghost use Rattle.bb_core.specs.Interleavings.{EveryInterleaving};
 
 /// Where a tree covers, each feasible point of a scenario has at least the scenario's cap as value, or
 /// lies in the box of an open or held node where the scenario is live.
@@ -27,4 +28,10 @@ pub fn marks_keep_coverage()
 /// the scenarios that it drops reach their caps.
 pub fn settling_keeps_coverage()
     ensures { SettlingKeepsCoverage }
+{}
+
+/// Whatever the order of the events of many actors: no better feasible point is lost, each word is the
+/// least value that was offered, and where no node is open or held it is the scenario's optimum.
+pub fn every_interleaving()
+    ensures { EveryInterleaving }
 {}

@@ -12,9 +12,8 @@ use Rattle.certs.proofs.ArrivalLemmas.{root_wide}
 use Rattle.certs.proofs.TreeCounts.{stayers_hull-part, Inside-length}
 use Rattle.certs.proofs.ClaimLaws.{all_within}
 use Rattle.bb_core.specs.Settlements.{Settlement, Outcome, Close, Branch, place_of, recorded}
-use Rattle.bb_core.specs.Coverage.{Slot, Closed, MaySettle, open_at, new_slots, settled, root_slot}
+use Rattle.bb_core.specs.Coverage.{Slot, Mark, Closed, MaySettle, open_at, new_slots, settled, root_slot}
 use Rattle.bb_core.proofs.ListWrites.{set-get, append-get}
-use Rattle.open_pool.specs.Marks.{claimed}
 use Rattle.open_pool.specs.Judged.{AreWide}
 use Rattle.open_pool.proofs.LawfulLaws.{branch_parts}
 
@@ -40,13 +39,13 @@ none_wide : (columns : ℕ) → AreWide columns []
 none_wide columns n t e = absurd (cc)
 
 module _ (p : Problem) (limits : AllWithin p) (slots : List Slot) (caps : List Level) (h : AreWide p.columns slots) where
-  work_wide : (s : Settlement) → MaySettle p slots caps claimed s → length (place_of s.work).box ≡ p.columns
+  work_wide : {mark : Mark} (s : Settlement) → MaySettle p slots caps mark s → length (place_of s.work).box ≡ p.columns
   work_wide s m = ap (λ (q : Place). length q.box) (sym m.its_work) ∙ h s.work.node m.held.slot m.held.found
 
-  children_wide : (o : Outcome) (s : Settlement) → s.outcome ≡ o → MaySettle p slots caps claimed s → AreWide p.columns (new_slots o)
-  children_wide Close s e m = none_wide p.columns
-  children_wide (Branch stay column v left right ls rs) s e m =
-      let own : MaySettle p slots caps claimed (record s { outcome = Branch stay column v left right ls rs }) = subst (λ (o : Outcome). MaySettle p slots caps claimed (record s { outcome = o })) e m in
+  children_wide : {mark : Mark} (o : Outcome) (s : Settlement) → s.outcome ≡ o → MaySettle p slots caps mark s → AreWide p.columns (new_slots o)
+  children_wide {mark = mark} Close s e m = none_wide p.columns
+  children_wide {mark = mark} (Branch stay column v left right ls rs) s e m =
+      let own : MaySettle p slots caps mark (record s { outcome = Branch stay column v left right ls rs }) = subst (λ (o : Outcome). MaySettle p slots caps mark (record s { outcome = o })) e m in
       let parts = branch_parts p caps (length slots) s.work s.cert s.verdicts stay column v left right ls rs (record { lawful = own.lawful; closes = own.closes }) in
       let long : length s.work.bounds ≡ p.columns = work_wide s m in
       let hull = parts.2.hull in
@@ -56,7 +55,7 @@ module _ (p : Problem) (limits : AllWithin p) (slots : List Slot) (caps : List L
       (ap length hull.left_is ∙ length-set hull.within column (at_most (interval_at hull.within column) v) ∙ hull_long)
       (ap length hull.right_is ∙ length-set hull.within column (at_least (interval_at hull.within column) (v +ℤ pos 1)) ∙ hull_long)
 
-  pub wide_settled : (s : Settlement) → MaySettle p slots caps claimed s → AreWide p.columns (settled slots s)
+  pub wide_settled : {mark : Mark} (s : Settlement) → MaySettle p slots caps mark s → AreWide p.columns (settled slots s)
   wide_settled s m i t e =
       let new : Slot = record { node = recorded (length slots) s.cert s.verdicts s.outcome; place = place_of s.work; mark = Closed } in
       elim (append-get (slice_set slots s.work.node new) (new_slots s.outcome) i t e) [

@@ -13,7 +13,7 @@ fn are_same(a: &[i32], b: &[i32]) -> bool
 }
 
 /// Whether both are the same box.
-pub(crate) fn is_same_box(a: &PointBox, b: &PointBox) -> bool
+pub fn is_same_box(a: &PointBox, b: &PointBox) -> bool
     ensures yes { result ≡ true → a.now ≡ b.now }
     ensures no { result ≡ false → a.now ≡ b.now → ⊥ }
 {

@@ -123,7 +123,7 @@ fn is_branched(
 
 /// Whether the settlement is lawful and each dropped level reaches its cap.
 #[tactic(auto, using(crate::proofs::LawfulLaws::not_closed_raised, crate::proofs::LawfulLaws::not_raised, crate::proofs::LawfulLaws::branch_ends_are))]
-pub(crate) fn passes(
+pub fn passes(
     problem: &Problem,
     caps: &[Level],
     count: u32,

@@ -28,7 +28,7 @@ fn is_same(a: Option<Level>, b: Option<Level>) -> bool
 
 /// Whether two lists of levels are the same for the live scenarios.
 #[tactic(auto, using(crate::proofs::LevelLists::same_length_live, crate::proofs::LevelLists::live_same))]
-pub(crate) fn are_same(live: LiveSet, levels: &Levels, other_live: LiveSet, others: &Levels) -> bool
+pub fn are_same(live: LiveSet, levels: &Levels, other_live: LiveSet, others: &Levels) -> bool
     requires { length levels.now ≤ 64 }
     ensures yes { result ≡ true → of_live live 0 levels.now ≡ of_live other_live 0 others.now }
     ensures no { result ≡ false → of_live live 0 levels.now ≡ of_live other_live 0 others.now → ⊥ }
@@ -102,7 +102,7 @@ pub(crate) fn level_at(caps: &[Level], k: u32) -> Level
 }
 
 /// Whether the level, where there is one, is at least the cap.
-fn reaches(cap: Level, level: Option<Level>) -> bool
+pub fn reaches(cap: Level, level: Option<Level>) -> bool
     ensures yes { result ≡ true → (e : Bound) → level ≡ Some e → IsTrue (level_le cap e) }
     ensures no { result ≡ false → ((e : Bound) → level ≡ Some e → IsTrue (level_le cap e)) → ⊥ }
 {

@@ -18,7 +18,11 @@ mod scan;
 mod scratch;
 mod slot;
 
+pub use boxes::is_same_box;
+pub use lawful::passes;
+pub use levels::{are_same, reaches};
 pub use pool::{Claim, Pool, Settled};
+pub use scratch::Scratch;
 
 #[cfg(test)]
 mod tests;

@@ -10,14 +10,15 @@ use std::alloc::{AllocError, Global};
 
 /// Room for the raised levels of a node and for two boxes.
 #[derive(Drop)]
-pub(crate) struct Scratch {
+pub struct Scratch {
     pub(crate) raised: Vec<Option<Level>>,
     pub(crate) replay: PointBox,
     pub(crate) hull: PointBox,
 }
 
 impl Scratch {
-    pub(crate) fn new(alloc: Global, problem: &Problem) -> Result<Scratch, AllocError>
+    /// Room for the problem's scenarios and columns.
+    pub fn new(alloc: Global, problem: &Problem) -> Result<Scratch, AllocError>
         ensures { IfOk result (λ a. IsScratch (problems.problem problem.now).columns (length (problems.problem problem.now).scenarios) a) }
     {
         let raised = Vec::with_capacity(alloc, problem.count() as usize)?;
