@@ -57,12 +57,19 @@ module _ (f : Found) (sound : IsSound f) (k : ℕ) (lt : k < scenario_count f.pr
       subst (λ (l : Level). IsTrue (level_le l (cap_level cap))) (sym (level_is (best_of f k)))
       (code_level (value_of (best_of f k)) cap best_limit limit (omega (arith, best_code, h)))
 
--- best values that are no greater
-pub best_falls : (f g : Found) → IsSound f → IsSound g → IsNoWorse f g → (k : ℕ) → k < scenario_count f.problem → IsTrue (level_le (best_level (best_of g k)) (best_level (best_of f k)))
-best_falls f g sf sg h k lt =
-    let lt' : k < scenario_count g.problem = subst (λ (p : Scenarios). k < scenario_count p) (sym h.same.problem) lt in
+  -- a level of at least each value whose code is at most a code c is at least the best one, where that is at most c
+  pub best_within : (cap : Level) (c : ℕ) → ((v : Option ℤ) → IfSome v IsValue → code_of v ≤ c → IsTrue (level_le (cap_level v) cap)) → code_at f.seat.view.offers k ≤ c → IsTrue (level_le (best_level (best_of f k)) cap)
+  best_within cap c above h = subst (λ (l : Level). IsTrue (level_le l cap)) (sym (level_is (best_of f k))) (above (value_of (best_of f k)) best_limit (omega (arith, best_code, h)))
+
+-- own least offers for one problem that are no greater are best values that are no greater
+pub best_least : (f g : Found) → IsSound f → IsSound g → g.problem ≡ f.problem → (k : ℕ) → k < scenario_count f.problem → code_at g.seat.view.offers k ≤ code_at f.seat.view.offers k → IsTrue (level_le (best_level (best_of g k)) (best_level (best_of f k)))
+best_least f g sf sg same k lt h =
+    let lt' : k < scenario_count g.problem = subst (λ (p : Scenarios). k < scenario_count p) (sym same) lt in
     subst (λ (l : Level). IsTrue (level_le (best_level (best_of g k)) l)) (sym (level_is (best_of f k)))
-    (best_below g sg k lt' (value_of (best_of f k)) (best_limit f sf k lt) (omega (arith, best_code f sf k lt, h.best k)))
+    (best_below g sg k lt' (value_of (best_of f k)) (best_limit f sf k lt) (omega (arith, best_code f sf k lt, h)))
+
+pub best_falls : (f g : Found) → IsSound f → IsSound g → IsNoWorse f g → (k : ℕ) → k < scenario_count f.problem → IsTrue (level_le (best_level (best_of g k)) (best_level (best_of f k)))
+best_falls f g sf sg h k lt = best_least f g sf sg h.same.problem k lt (h.best k)
 
 -- ---- caps
 

@@ -19,7 +19,7 @@ use Rattle.bb_core.specs.Coverage.{Slot, Mark, Closed, Open, Held, Covers, place
 use Rattle.bb_core.proofs.ListWrites.{some_same, append-get}
 use Rattle.finder.specs.Kept.{place_at}
 use Rattle.finder.specs.Found.{Found, IsSound, scenario_count, program_of}
-use Rattle.open_pool.specs.Pooled.{Pooled, nodes_of}
+use Rattle.open_pool.specs.Pooled.{Pooled, nodes_of, IsFull, IsStopped}
 use Rattle.alone_run.specs.Turns.{IsNoWorse}
 use Rattle.alone_run.specs.Runs.{AreAbove, with_value, best_of, best_level, point_of, IsLimit, ReachedFrom, IsClaimed, IsRun}
 use Rattle.alone_run.specs.Steps.{AreClaims, AreClosed, IsOver}
@@ -100,12 +100,13 @@ pub record IsEnd (p : Problem) (begun : Pooled) (first : Found) (q : Pooled) (f 
   pub many : length q.caps ≡ length p.scenarios
   pub within : length q.slots ≤ q.nodes
   pub nodes : q.nodes ≡ begun.nodes
+  pub grown : length begun.slots ≤ length q.slots
   pub problem : problems.problem f.problem ≡ p
   pub sound : IsSound f
   pub first_sound : IsSound first
   pub worse : IsNoWorse first f
   pub caps : AreAbove f q.caps
-  pub over : AreClosed q.slots ⊎ ((begun.stopped ≡ true) ⊎ (q.nodes < length q.slots + 2))
+  pub over : AreClosed q.slots ⊎ (IsStopped begun ⊎ IsFull p q.nodes (length q.slots))
   pub claims : AreClaims p q f answers
 
 module _ (p : Problem) (begun : Pooled) (first : Found) (q : Pooled) (f : Found) (answers : List Answer) (h : IsEnd p begun first q f answers) where
@@ -153,14 +154,14 @@ module _ (p : Problem) (begun : Pooled) (first : Found) (q : Pooled) (f : Found)
         by_mark m Open q stays = absurd (stays (λ c. (let w : Open ≡ Closed = sym q ∙ c in absurd (cc))))
         by_mark m (Held b) q stays = absurd (stays (λ c. (let w : Held b ≡ Closed = sym q ∙ c in absurd (cc))))
 
-    limit : IsLimit a → (begun.stopped ≡ true) ⊎ (begun.nodes < length (placed_of q.slots) + 2)
+    limit : IsLimit a → IsStopped begun ⊎ IsFull p begun.nodes (length (placed_of q.slots))
     limit g = elim h.over [
       | inl closed ↦ absurd (no_limit (best_of f k) (bound_of p (placed_of q.slots) k) (least_above (λ (z : Node × Place). slice_index_or (end_levels p z.1 z.0) k None) (best_level (best_of f k)) (placed_of q.slots) (λ n z l d end. (let t = slot_of q.slots n z.0 z.1 d in
           let level : slice_index_or (end_levels p t.0.place t.0.node) k None ≡ Some l = ap (λ (r : Place). slice_index_or (end_levels p r t.0.node) k None) t.3 ∙ (ap (λ (r : Node). slice_index_or (end_levels p z.1 r) k None) t.2 ∙ end) in
           closed_end k lt n t.0 l t.1 (closed n t.0 t.1) level))) (subst IsLimit is g))
       | inr more ↦ (elim more [
         | inl s ↦ inl s
-        | inr full ↦ inr (omega (arith, full, h.nodes, length_placed q.slots))
+        | inr full ↦ inr (record { places = omega (arith, full.places, h.nodes, length_placed q.slots); points = omega (arith, full.points, h.nodes) })
       ])
     ]
 
@@ -185,6 +186,7 @@ module _ (p : Problem) (begun : Pooled) (first : Found) (q : Pooled) (f : Found)
     nodes_are = nodes_are q.slots;
     tree = h.covered.tree;
     within = omega (arith, length_nodes q.slots, h.within, h.nodes);
+    grown = omega (arith, length_nodes q.slots, h.grown);
     accepted = record {
       placed = placed_of q.slots;
       nodes_are = nodes_are q.slots;
@@ -222,11 +224,11 @@ each_more p q f answers s a many each is k c e = elim (append-get answers (a ∷
     last (suc j) d g = absurd (cc)
 
 -- the last step began with a pool that is stopped where the first one is
-pub over_from : (first before now : Pooled) → before.stopped ≡ first.stopped → IsOver before now → AreClosed now.slots ⊎ ((first.stopped ≡ true) ⊎ (now.nodes < length now.slots + 2))
-over_from first before now e h = elim h.over [
+pub over_from : (p : Problem) (first before now : Pooled) → now.problem ≡ p → before.stopped ≡ first.stopped → before.halted ≡ first.halted → IsOver before now → AreClosed now.slots ⊎ (IsStopped first ⊎ IsFull p now.nodes (length now.slots))
+over_from p first before now same e d h = elim h.over [
   | inl closed ↦ inl closed
   | inr more ↦ (elim more [
-    | inl s ↦ inr (inl (sym e ∙ s))
-    | inr full ↦ inr (inr full)
+    | inl s ↦ inr (inl (record { stopped = sym e ∙ s.stopped; halted = sym d ∙ s.halted }))
+    | inr full ↦ inr (inr (subst (λ (r : Problem). IsFull r now.nodes (length now.slots)) same full))
   ])
 ]

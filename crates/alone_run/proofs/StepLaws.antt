@@ -32,7 +32,7 @@ use Rattle.incumbent_words.specs.Seats.{Held as Seat}
 use Rattle.finder.specs.Found.{Found, IsSound, IsSameHolder, scenario_count}
 use Rattle.node_work.specs.Stayers.{AreStayers, is_below}
 use Rattle.open_pool.specs.Marks.{claimed, is_held_by}
-use Rattle.open_pool.specs.Pooled.{Pooled, HasNone, IsNext, is_claimed, is_open, reopened, count_open}
+use Rattle.open_pool.specs.Pooled.{Pooled, HasNone, IsNext, is_claimed, is_open, reopened, count_open, IsFull}
 use Rattle.open_pool.specs.Claims.{IsClaim, IsSettled, IsSplit}
 use Rattle.open_pool.specs.declared.pool.Claim.TheVariants.{Node}
 use Rattle.open_pool.specs.declared.pool.Settled.TheVariants.{Halted, Stray}
@@ -296,12 +296,26 @@ module _ (slots : List Slot) (n : ℕ) (free : HasNone slots claimed) (next : Is
       by_test true = length-set (marked_as slots n claimed) n (record (slot_at (marked_as slots n claimed) n) { mark = Open }) ∙ length_marked
       by_test false = length_marked
 
+-- ---- room
+
+full_as : (p : Problem) (nodes nodes' count count' : ℕ) → nodes' ≡ nodes → count' ≡ count → IsFull p nodes count → IsFull p nodes' count'
+full_as p nodes nodes' count count' e d h = record { places = omega (arith, e, d, h.places); points = omega (arith, e, h.points) }
+
+-- a pool that is stopped is full where it was halted
+pub stopped_over : (q : Pooled) → q.stopped ≡ true → (q.halted ≡ true → IsFull q.problem q.nodes (length q.slots)) → IsOver q q
+stopped_over q s h = by_mark q.halted refl
+  where
+    by_mark : (b : Bool) → q.halted ≡ b → IsOver q q
+    by_mark true e = record { nodes = refl; grown = omega arith; over = inr (inr (h e)) }
+    by_mark false e = record { nodes = refl; grown = omega arith; over = inr (inl (record { stopped = s; halted = e })) }
+
 -- ---- what a settlement makes of the pool: q0 is the pool before the claim, q2 before the settlement
 
 pub record IsHeld (q0 q2 : Pooled) (n : ℕ) : Type 0 where
   pub slots : q2.slots ≡ marked_as q0.slots n claimed
   pub nodes : q2.nodes ≡ q0.nodes
   pub stopped : q2.stopped ≡ q0.stopped
+  pub halted : q2.halted ≡ q0.halted
 
 module _ (q0 q2 q3 : Pooled) (n : ℕ) (held : IsHeld q0 q2 n) (free : HasNone q0.slots claimed) (next : IsNext q0.slots n) (s : made.Settlement) (same : s.work.node ≡ n) where
   slots_then : settled q2.slots s ≡ settled (marked_as q0.slots n claimed) s
@@ -340,7 +354,9 @@ module _ (q0 q2 q3 : Pooled) (n : ℕ) (held : IsHeld q0 q2 n) (free : HasNone q
       let zc = ap count_open none in
       record {
         nodes = nodes;
+        grown = omega (arith, l);
         stopped = ap (λ (q : Pooled). q.stopped) e ∙ held.stopped;
+        halted = ap (λ (q : Pooled). q.halted) e ∙ held.halted;
         less = omega (arith, nodes, l, c, zl, zc);
       }
 
@@ -354,7 +370,9 @@ module _ (q0 q2 q3 : Pooled) (n : ℕ) (held : IsHeld q0 q2 n) (free : HasNone q
       let l = long e in let c = opens e in
       record {
         nodes = nodes;
+        grown = omega (arith, l);
         stopped = ap (λ (q : Pooled). q.stopped) e ∙ held.stopped;
+        halted = ap (λ (q : Pooled). q.halted) e ∙ held.halted;
         less = omega (arith, nodes, l, c, two, room, marked, held.nodes);
       }
 
@@ -365,7 +383,8 @@ module _ (q0 q2 q3 : Pooled) (n : ℕ) (held : IsHeld q0 q2 n) (free : HasNone q
       let slots : q3.slots ≡ reopened (marked_as q0.slots n claimed) n = ap (λ (q : Pooled). q.slots) e ∙ ap (λ (xs : List Slot). reopened xs s.work.node) held.slots ∙ ap (reopened (marked_as q0.slots n claimed)) same in
       let l = ap (λ (xs : List Slot). length xs) slots ∙ reopened_length q0.slots n free next in
       let marked = ap (λ (xs : List Slot). length xs) held.slots ∙ length_marked q0.slots n free next in
-      record { nodes = nodes; over = inr (inr (omega (arith, h.2, nodes, l, marked, held.nodes))) }
+      let problem : q2.problem ≡ q3.problem = sym (ap (λ (q : Pooled). q.problem) e) in
+      record { nodes = nodes; grown = omega (arith, l); over = inr (inr (subst (λ (p : Problem). IsFull p q3.nodes (length q3.slots)) problem (full_as q2.problem q2.nodes q3.nodes (length q2.slots) (length q3.slots) (omega (arith, nodes, held.nodes)) (omega (arith, l, marked)) h.2))) }
 
   pub halted_free : IsSettled q2 s q3 Halted → HasNone q3.slots claimed
   halted_free h =
@@ -394,6 +413,7 @@ module _ (problem : Scenarios) (table : TableId) (q0 q1 q2 : Pooled) (f0 f1 f2 :
     slots = ap (λ (q : Pooled). q.slots) h.same ∙ ap (λ (q : Pooled). q.slots) h.claim.3;
     nodes = ap (λ (q : Pooled). q.nodes) h.same ∙ ap (λ (q : Pooled). q.nodes) h.claim.3;
     stopped = ap (λ (q : Pooled). q.stopped) h.same ∙ ap (λ (q : Pooled). q.stopped) h.claim.3;
+    halted = ap (λ (q : Pooled). q.halted) h.same ∙ ap (λ (q : Pooled). q.halted) h.claim.3;
   }
 
   posed : q2.problem ≡ problems.problem problem

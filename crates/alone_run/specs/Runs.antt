@@ -1,5 +1,5 @@
 -- What a run ends with: claims on the scenarios, and the tree that shows them.
-use Rattle.std.specs.Prelude.{◌≡◌, ◌⊎◌, ◌<◌, ◌≤◌, ◌+◌, ℕ, ℤ, true, List, Option, None, Some, IsTrue, length, map, slice_get, slice_index_or}
+use Rattle.std.specs.Prelude.{◌≡◌, ◌⊎◌, ◌<◌, ◌≤◌, ℕ, ℤ, List, Option, None, Some, IsTrue, length, map, slice_get, slice_index_or}
 use Rattle.int_model.specs.Programs.{Program, value}
 use Rattle.scenario_changes.specs.Problems.{Problem}
 use Rattle.scenario_changes.specs.Answers.{RightAnswer}
@@ -14,7 +14,7 @@ use Rattle.certs.specs.declared.level.Level.{Level}
 use Rattle.certs.specs.declared.level.Level.TheVariants.{Value, Inf}
 use Rattle.finder.specs.Kept.{place_at}
 use Rattle.finder.specs.Found.{Found, program_of}
-use Rattle.open_pool.specs.Pooled.{Pooled}
+use Rattle.open_pool.specs.Pooled.{Pooled, IsFull, IsStopped}
 
 -- ---- best points
 
@@ -54,20 +54,22 @@ abbrev pub ReachedFrom : Problem → List (Node × Place) → ℕ → Level → 
 ReachedFrom p placed k least = (n : ℕ) (node : Node) (place : Place) (l : Level) → slice_get placed n ≡ Some (node, place) → (node ≡ Rest → ⊥) → slice_index_or (end_levels p place node) k None ≡ Some l → IsTrue (level_le least l)
 
 -- the claim on scenario k, with a program s, of a run of the pool q and the finder f that ends with these nodes at their places:
--- what its point and the least level over the ends allow, and right. The point is no worse than the finder's best
+-- what its point and the least level over the ends allow, and right. The point is no worse than the finder's best. A limit
+-- is there only where the pool was stopped, or has no room for a tree that the points of the root box allow
 pub record IsClaimed (p : Problem) (q : Pooled) (f : Found) (placed : List (Node × Place)) (k : ℕ) (a : Answer) : Type 0 where
   pub claim : a ≡ claim_of (point_of a) (bound_of p placed k)
   pub right : (s : Program) → slice_get p.scenarios k ≡ Some s → RightAnswer s a
   pub better : IsTrue (level_le (best_level (point_of a)) (best_level (best_of f k)))
   pub reached : ReachedFrom p placed k (best_level (point_of a))
-  pub limit : IsLimit a → (q.stopped ≡ true) ⊎ (q.nodes < length placed + 2)
+  pub limit : IsLimit a → IsStopped q ⊎ IsFull p q.nodes (length placed)
 
--- the answers and the nodes that a run of the pool q and the finder f ends with
+-- the answers and the nodes that a run of the pool q and the finder f ends with. No node of the pool is lost
 pub record IsRun (p : Problem) (q : Pooled) (f : Found) (answers : List Answer) (nodes : List Node) : Type 0 where
   pub placed : List (Node × Place)
   pub nodes_are : map (λ (e : Node × Place). e.0) placed ≡ nodes
   pub tree : IsTree p placed
   pub within : length nodes ≤ q.nodes
+  pub grown : length q.slots ≤ length nodes
   pub accepted : Accepted p answers nodes
   pub count : length answers ≡ length p.scenarios
   pub claims : (k : ℕ) (a : Answer) → slice_get answers k ≡ Some a → IsClaimed p q f placed k a

@@ -1,5 +1,5 @@
 -- The steps of a run.
-use Rattle.std.specs.Prelude.{◌≡◌, ◌⊎◌, ◌<◌, ◌+◌, ◌-◌, ◌*◌, ℕ, ℤ, true, List, Option, Some, IfSome, length, slice_get, slice_index_or}
+use Rattle.std.specs.Prelude.{◌≡◌, ◌⊎◌, ◌<◌, ◌≤◌, ◌+◌, ◌-◌, ◌*◌, ℕ, ℤ, List, Option, Some, IfSome, length, slice_get, slice_index_or}
 use Rattle.scenario_changes.specs.Problems.{Problem, Scenarios}
 use Rattle.scenario_changes.specs.Problems as problems
 use Rattle.scenario_changes.specs.declared.answer.Answer.{Answer}
@@ -13,7 +13,7 @@ use Rattle.incumbent_words.specs.Codes.{code_of, IsValue}
 use Rattle.incumbent_words.specs.Rule.{code_at, HasAll}
 use Rattle.finder.specs.Found.{Found}
 use Rattle.open_pool.specs.Marks.{claimed}
-use Rattle.open_pool.specs.Pooled.{Pooled, HasNone, count_open}
+use Rattle.open_pool.specs.Pooled.{Pooled, HasNone, IsFull, IsStopped, count_open}
 use Rattle.alone_run.specs.Runs.{AreAbove, best_of}
 
 -- a pool and a finder that a step may begin with: for one problem, with no claimed node, caps of at least the finder's best
@@ -36,13 +36,16 @@ AreClosed slots = (n : ℕ) (t : Slot) → slice_get slots n ≡ Some t → t.ma
 -- a node was settled
 pub record GoesOn (before now : Pooled) : Type 0 where
   pub nodes : now.nodes ≡ before.nodes
+  pub grown : length before.slots ≤ length now.slots
   pub stopped : now.stopped ≡ before.stopped
+  pub halted : now.halted ≡ before.halted
   pub less : weight now < weight before
 
--- each node is closed, or the pool is stopped: it was before, or there is no room for two more nodes
+-- each node is closed, or the pool was stopped before, or there is no room for two more nodes
 pub record IsOver (before now : Pooled) : Type 0 where
   pub nodes : now.nodes ≡ before.nodes
-  pub over : AreClosed now.slots ⊎ ((before.stopped ≡ true) ⊎ (now.nodes < length now.slots + 2))
+  pub grown : length before.slots ≤ length now.slots
+  pub over : AreClosed now.slots ⊎ (IsStopped before ⊎ IsFull now.problem now.nodes (length now.slots))
 
 -- the cap becomes the lesser of itself and the value of this code
 pub record IsLowered (before now : Level) (code : ℕ) : Type 0 where

@@ -8,7 +8,7 @@ mod claims;
 mod run;
 mod turning;
 
-pub use run::{Ended, run_alone};
+pub use run::{Ended, lower_caps, run_alone};
 pub use turning::turn;
 
 #[cfg(test)]

@@ -29,9 +29,9 @@ pub struct Ended {
 /// and the best points allow.
 ///
 /// The answers are right, and the tree is accepted with them. It has at most as many nodes as the pool
-/// may have. An answer that is a limit is there only where the pool was stopped before, or where there
-/// is no room for two more nodes. Where the finder had a point of a scenario, the answer has one of at
-/// most its value.
+/// may have. An answer that is a limit is there only where somebody stopped the pool before, or where there
+/// is no room for two more nodes, and for a whole tree: that may have 2V - 1 nodes, where the root box has
+/// V points. Where the finder had a point of a scenario, the answer has one of at most its value.
 pub fn run_alone(
     alloc: Global,
     problem: &Problem,
@@ -100,12 +100,17 @@ fn step(
                 Settled::Halted | Settled::Stray => Ok(false),
             }
         }
-        Claim::Wait | Claim::Done | Claim::Stopped => Ok(false),
+        Claim::Wait | Claim::Done => Ok(false),
+        Claim::Stopped => {
+            // This call tells that a halted pool is full.
+            let _halted = pool.is_halted();
+            Ok(false)
+        }
     }
 }
 
-// Lowers the pool's caps by the note's.
-fn lower_caps(problem: &Problem, pool: &mut Pool<'_>, note: &WordSeat)
+/// Lowers each cap of the pool to the note's, where that is less. It takes no memory.
+pub fn lower_caps(problem: &Problem, pool: &mut Pool<'_>, note: &WordSeat)
     requires pool { pool.old.problem ≡ posed problem.now }
     requires words { note.now.table.words ≡ length (posed problem.now).scenarios }
     ensures same { pool.new ≡ record pool.old { caps = pool.new.caps } }

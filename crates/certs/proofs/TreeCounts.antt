@@ -281,3 +281,29 @@ root-long n (s ∷ ss) l h = length-hull_of n s.bounds (map (λ (t : Program). t
 pub tree-length : (p : Problem) → AllWithin p → 0 < length p.scenarios → (placed : List (Node × Place)) → IsTree p placed → 1 ≤ volume (root_box p.scenarios) → length placed ≤ 2 * volume (root_box p.scenarios) - 1
 tree-length p limits some placed tree v =
     few_nodes p limits placed tree (record { long = root-long p.columns p.scenarios some (λ k s e. (limits k s e).shape.bounds); points = points-from (root_box p.scenarios) v })
+
+-- ---- a tree with a split
+
+-- what a split hands on comes from a hull
+hull-there : (n child : ℕ) (stay : List ℕ) (column : ℕ) (v : ℤ) (o : Option Box) (ls : Option (List (Option Level))) (q : Place) → handed_on n child (two_places stay column v o ls) ≡ q ∷ [] → (h : Box) × (o ≡ Some h)
+hull-there n child stay column v None ls q e = absurd (cc)
+hull-there n child stay column v (Some h) ls q e = (h, refl)
+
+handing-points : (p : Problem) → AllWithin p → (n : ℕ) (node : Node) (q place : Place) → length q.box ≡ p.columns → handed p n (node, q) ≡ place ∷ [] → 1 ≤ volume q.box
+handing-points p limits n Rest q place long e = absurd (cc)
+handing-points p limits n (Leaf cert verdicts) q place long e = absurd (cc)
+handing-points p limits n (Split cert verdicts stay child column v) q place long e =
+    let h = hull-there n child stay column v (stayers_hull p q.box cert stay) (raised q.box cert p.scenarios q.levels verdicts) place e in
+    let part : PartOf h.0 q.box = stayers_hull-part p limits q.box long cert stay h.0 h.1 in
+    omega (arith, volume-pos h.0 part.points, volume-le h.0 q.box part.inside)
+
+pub tree-points : (p : Problem) → AllWithin p → 0 < length p.scenarios → (placed : List (Node × Place)) → IsTree p placed → 2 ≤ length placed → 1 ≤ volume (root_box p.scenarios)
+tree-points p limits some placed tree two =
+    let a = slice_get-some placed 0 (omega (arith, two)) in
+    let b = slice_get-some placed 1 (omega (arith, two)) in
+    let first : root_place p ∷ [] ≡ a.0.1 ∷ [] = (tree.right 0 a.0.0 a.0.1 a.1).arrival in
+    let same : a.0.1 ≡ root_place p = cc in
+    let second : flat_map (handed p 1) (take 1 placed) ≡ b.0.1 ∷ [] = (tree.right 1 b.0.0 b.0.1 b.1).arrival in
+    let one : take 1 placed ≡ (a.0.0, a.0.1) ∷ [] = take-next placed 0 a.0 a.1 in
+    let own : handed p 1 (a.0.0, a.0.1) ≡ b.0.1 ∷ [] = sym (append-nil (handed p 1 (a.0.0, a.0.1))) ∙ (sym (ap (flat_map (handed p 1)) one) ∙ second) in
+    handing-points p limits 1 a.0.0 (root_place p) b.0.1 (root-long p.columns p.scenarios some (λ k s e. (limits k s e).shape.bounds)) (subst (λ (z : Place). handed p 1 (a.0.0, z) ≡ b.0.1 ∷ []) same own)

@@ -64,6 +64,10 @@ PlacesAreSafe = (p : Problem) (placed : List (Node × Place)) → AreWithin p �
 abbrev pub TreeIsSmall : Type 0
 TreeIsSmall = (p : Problem) (placed : List (Node × Place)) → AreWithin p → IsTree p placed → 1 ≤ volume (root_box p.scenarios) → length placed ≤ 2 * volume (root_box p.scenarios) - 1
 
+-- the root box of a tree of two or more nodes has a point
+abbrev pub TreeHasPoints : Type 0
+TreeHasPoints = (p : Problem) (placed : List (Node × Place)) → AreWithin p → IsTree p placed → 2 ≤ length placed → 1 ≤ volume (root_box p.scenarios)
+
 -- the least level over the ends of a scenario is Inf or within ±2^60
 abbrev pub BoundsFit : Type 0
 BoundsFit = (p : Problem) (placed : List (Node × Place)) → AreWithin p → IsTree p placed → (k : ℕ) (s : Program) → slice_get p.scenarios k ≡ Some s → LevelFits (bound_of p placed k)

@@ -1,5 +1,5 @@
 //! Laws of the definitions. Each function has no code, and its contract is the law.
-ghost use Rattle.certs.specs.Laws.{AcceptedIsRight, BoundsFit, EndsCover, LevelIsSafe, OrderTellsBounds, PlacesAreSafe, RunIsRight, StartIsSafe, TreeIsSmall};
+ghost use Rattle.certs.specs.Laws.{AcceptedIsRight, BoundsFit, EndsCover, LevelIsSafe, OrderTellsBounds, PlacesAreSafe, RunIsRight, StartIsSafe, TreeHasPoints, TreeIsSmall};
 
 /// No feasible point of the scenario in the box has a value below the level of a valid verdict. Where
 /// the level is `Inf` there is no such point.
@@ -32,6 +32,11 @@ pub fn places_are_safe()
 /// A tree has at most 2V - 1 nodes, where its root box has V points, at least one.
 pub fn tree_is_small()
     ensures { TreeIsSmall }
+{}
+
+/// A tree of two or more nodes has a split, so its root box has a point.
+pub fn tree_has_points()
+    ensures { TreeHasPoints }
 {}
 
 /// The least level over the ends of a scenario is `Inf` or within ±2^60, as all values are.

@@ -103,6 +103,7 @@ impl<'a> Finder<'a> {
         ensures problem { self.new.problem ≡ self.old.problem }
         ensures table { self.new.seat.table ≡ self.old.seat.table }
         ensures view { self.new.seat.view ≡ joined self.old.seat.view other.entry.seat.view }
+        ensures offers { (s : ℕ) → code_at self.new.seat.view.offers s ≡ min (code_at self.old.seat.view.offers s) (code_at other.entry.seat.view.offers s) }
         ensures len { length self.new.points ≡ length self.old.points }
         ensures theirs { (s : ℕ) → s < scenario_count self.old.problem → code_at other.entry.seat.view.offers s < code_at self.old.seat.view.offers s → place_at self.new.points s ≡ place_at other.entry.points s }
         ensures mine { (s : ℕ) → s < scenario_count self.old.problem → code_at self.old.seat.view.offers s ≤ code_at other.entry.seat.view.offers s → place_at self.new.points s ≡ place_at self.old.points s }

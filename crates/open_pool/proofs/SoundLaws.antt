@@ -1,23 +1,24 @@
 -- The invariant of a pool after a change of one place.
 use Rattle.scenario_changes.specs.Problems as problems
-use Rattle.std.specs.Prelude.{◌≡◌, ℕ, ◌<◌, ◌≤◌, ◌+◌, length, slice_set, true, drop, List, ◌++◌, [], ◌∷◌, refl, ℤ, Bool, false, cond, slice_index_or, None}
+use Rattle.std.specs.Prelude.{◌≡◌, ℕ, ◌<◌, ◌≤◌, ◌+◌, ◌-◌, ◌*◌, length, slice_set, true, drop, List, ◌++◌, [], ◌∷◌, refl, ℤ, Bool, false, cond, slice_index_or, None}
 use Rattle.std.specs.Vec.{with_item, with_items}
 use Rattle.std.proofs.lemmas.List.{take-append-le, take_all, length-set, length-append, append-nil}
 use Rattle.std.proofs.Common.{arith, ap, sym, ◌∙◌, subst, Vec, Global, vec_len, vec_capacity, append_assoc}
-use Rattle.bb_core.specs.Coverage.{Mark, Closed, Open, Slot, Covers, slot_at, settled, new_slots, open_at, marked_as, MaySettle}
+use Rattle.bb_core.specs.Coverage.{Mark, Closed, Open, Slot, Covers, slot_at, settled, new_slots, open_at, placed_of, marked_as, MaySettle}
 use Rattle.open_pool.specs.PoolParts.{IsSound}
 use Rattle.open_pool.specs.declared.pool.Pool.TheInside.{Inside}
 use Rattle.bb_core.specs.Settlements.{Settlement, Outcome, Close, Branch, place_of, recorded}
 use Rattle.certs.specs.Trees.{of_live}
-use Rattle.int_model.specs.Boxes.{Box}
+use Rattle.int_model.specs.Boxes.{Box, volume}
 use Rattle.certs.specs.Trees.{Place}
 use Rattle.open_pool.specs.Marks.{claimed, lesser_than}
 use Rattle.certs.specs.declared.tree.Node.{Node}
 use Rattle.certs.specs.declared.tree.Node.TheVariants.{Leaf, Split}
 use Rattle.certs.specs.declared.level.Level.{Level}
-use Rattle.open_pool.specs.Pooled.{Pooled, reopened, is_claimed}
+use Rattle.open_pool.specs.Pooled.{Pooled, IsFull, reopened, is_claimed}
 use Rattle.open_pool.specs.Claims.{IsSettled, IsAnswer, IsSplit, AreShort}
-use Rattle.scenario_changes.specs.Problems.{Problem}
+use Rattle.scenario_changes.specs.Problems.{Problem, root_box}
+use Rattle.certs.proofs.TreeCounts.{tree-length, tree-points}
 use Rattle.open_pool.specs.declared.pool.Settled.{Settled}
 use Rattle.open_pool.specs.declared.pool.Settled.TheVariants.{Closed as Closes, Split as Splits, Halted, Stray}
 use Rattle.certs.specs.declared.level.Level.TheVariants.{Inf}
@@ -49,7 +50,7 @@ sound-marked a n was mark t h l e w r q = record {
   spare_room = h.spare_room;
   scratch = h.scratch;
   wide = wide_marked (problems.problem a.problem.now).columns a.slots.items n (slot_at a.slots.items n) t h.wide (slot-found a.slots.items n l) (ap (λ (u : Slot). u.place) q);
-  full = λ f. let g : length (slice_set a.slots.items n t) ≡ length a.slots.items = length-set a.slots.items n t in omega (arith, g, h.full f);
+  full = λ f. let g : length (slice_set a.slots.items n t) ≡ length a.slots.items = length-set a.slots.items n t in record { places = omega (arith, g, (h.full f).places); points = (h.full f).points };
 }
 
 length-settled : (slots : List Slot) (s : Settlement) → length slots ≤ length (settled slots s)
@@ -72,7 +73,7 @@ sound-settled a v ends scratch s h w e l c d m g = record {
   spare_room = h.spare_room;
   scratch = d;
   wide = subst (λ (xs : List Slot). AreWide (problems.problem a.problem.now).columns xs) (sym e) (wide_settled (problems.problem a.problem.now) (all_within (problems.problem a.problem.now) h.right) a.slots.items a.caps.items h.wide s w);
-  full = λ f. let i : length v.items ≡ length (settled a.slots.items s) = ap length e in omega (arith, i, length-settled a.slots.items s, h.full f);
+  full = λ f. let i : length v.items ≡ length (settled a.slots.items s) = ap length e in record { places = omega (arith, i, length-settled a.slots.items s, (h.full f).places); points = (h.full f).points };
 }
 
 slot_eq : (t : Slot) (node : Node) (place : Place) (mark : Mark) → t.node ≡ node → t.place ≡ place → t.mark ≡ mark → ◌≡◌ {A = Slot} t (record { node = node; place = place; mark = mark })
@@ -128,6 +129,31 @@ settled_within slots s most h g = by_case s.outcome refl
         let two : length (new_slots s.outcome) ≡ 2 = ap (λ (o : Outcome). length (new_slots o)) e in
         let more : length slots + 2 ≤ most = g (subst (λ (o : Outcome). IsSplit o) (sym e) tt) in
         omega (arith, length-append (slice_set slots s.work.node new) (new_slots s.outcome), length-set slots s.work.node new, two, more)
+
+length-branched : (slots : List Slot) (s : Settlement) → IsSplit s.outcome → length (settled slots s) ≡ length slots + 2
+length-branched slots s h = by_case s.outcome refl
+  where
+    by_case : (o : Outcome) → s.outcome ≡ o → length (settled slots s) ≡ length slots + 2
+    by_case Close e = absurd (subst (λ (o : Outcome). IsSplit o) e h)
+    by_case (Branch stay column v left right ls rs) e =
+        let new : Slot = record { node = recorded (length slots) s.cert s.verdicts s.outcome; place = place_of s.work; mark = Closed } in
+        let two : length (new_slots s.outcome) ≡ 2 = ap (λ (o : Outcome). length (new_slots o)) e in
+        omega (arith, length-append (slice_set slots s.work.node new) (new_slots s.outcome), length-set slots s.work.node new, two)
+
+length-placed : (slots : List Slot) → length (placed_of slots) ≡ length slots
+length-placed [] = refl
+length-placed (t ∷ slots) = ap suc (length-placed slots)
+
+-- where a split that may be made finds no room, a whole tree has more nodes than the pool may have
+pub full_at : (p : Problem) (slots : List Slot) (caps : List Level) (nodes : ℕ) (s : Settlement) → AreWithin p → Covers p slots caps → MaySettle p slots caps claimed s → IsSplit s.outcome → nodes < length slots + 2 → IsFull p nodes (length slots)
+full_at p slots caps nodes s limits covered may split full =
+    let tree = (Covers-settled_here p slots caps s covered may).tree in
+    let long : length (placed_of (settled slots s)) ≡ length slots + 2 = length-placed (settled slots s) ∙ length-branched slots s split in
+    let points : 1 ≤ volume (root_box p.scenarios) = tree-points p (all_within p limits) limits.some_scenario (placed_of (settled slots s)) tree (omega (arith, long)) in
+    record {
+      places = full;
+      points = omega (arith, long, points, full, tree-length p (all_within p limits) limits.some_scenario (placed_of (settled slots s)) tree points);
+    }
 
 pub with_items_is : (v : Vec Level Global) (xs : List Level) → length xs ≡ vec_len v → (with_items v xs).items ≡ xs
 with_items_is v xs e = take-append-le (vec_len v) xs (drop (length xs) v.items) (omega (arith, e)) ∙ take_all (vec_len v) xs (omega (arith, e))

@@ -5,7 +5,7 @@ use Rattle.scenario_changes.specs.Problems.{Problem}
 use Rattle.bb_core.specs.Settlements.{Settlement, Outcome, Close, Branch, place_of}
 use Rattle.bb_core.specs.Coverage.{Slot, Open, Closed, settled, slot_at, marked_as, MaySettle}
 use Rattle.open_pool.specs.Marks.{claimed}
-use Rattle.open_pool.specs.Pooled.{Pooled, HasNone, IsNext, reopened}
+use Rattle.open_pool.specs.Pooled.{Pooled, HasNone, IsFull, IsNext, reopened}
 use Rattle.bb_core.specs.Shared.{work_of}
 use Rattle.open_pool.specs.declared.pool.Claim.{Claim}
 use Rattle.open_pool.specs.declared.pool.Claim.TheVariants.{Node, Wait, Done, Stopped}
@@ -38,7 +38,7 @@ IsSplit (Branch stay column v left right left_levels right_levels) = Unit {0}
 
 abbrev pub IsSettled : Pooled → Settlement → Pooled → Settled → Type 0
 IsSettled p s q Stray = (MaySettle p.problem p.slots p.caps claimed s → ⊥) × (q ≡ record p { slots = reopened p.slots s.work.node })
-IsSettled p s q Halted = MaySettle p.problem p.slots p.caps claimed s × IsSplit s.outcome × (p.nodes < length p.slots + 2) × (q ≡ record p { slots = reopened p.slots s.work.node; stopped = true; halted = true })
+IsSettled p s q Halted = MaySettle p.problem p.slots p.caps claimed s × IsSplit s.outcome × IsFull p.problem p.nodes (length p.slots) × (q ≡ record p { slots = reopened p.slots s.work.node; stopped = true; halted = true })
 IsSettled p s q IsClosed = MaySettle p.problem p.slots p.caps claimed s × (IsSplit s.outcome → ⊥) × (q ≡ record p { slots = settled p.slots s })
 IsSettled p s q Split = MaySettle p.problem p.slots p.caps claimed s × IsSplit s.outcome × (length p.slots + 2 ≤ p.nodes) × (q ≡ record p { slots = settled p.slots s })
 

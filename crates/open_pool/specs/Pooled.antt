@@ -1,6 +1,7 @@
 -- A pool as contracts see it, and what its calls do.
-use Rattle.std.specs.Prelude.{◌≡◌, ◌<◌, ◌+◌, ℕ, Bool, false, true, List, [], ◌∷◌, length, replicate, slice_get, Some, IsTrue, if◌then◌else◌, map}
-use Rattle.scenario_changes.specs.Problems.{Problem}
+use Rattle.std.specs.Prelude.{◌≡◌, ◌<◌, ◌+◌, ◌*◌, ℕ, Bool, false, true, List, [], ◌∷◌, length, replicate, slice_get, Some, IsTrue, if◌then◌else◌, map}
+use Rattle.int_model.specs.Boxes.{volume}
+use Rattle.scenario_changes.specs.Problems.{Problem, root_box}
 use Rattle.certs.specs.Levels.{level_le}
 use Rattle.certs.specs.declared.tree.Node.{Node}
 use Rattle.certs.specs.declared.level.Level.{Level}
@@ -28,6 +29,17 @@ begun p nodes = record {
   stopped = false;
   halted = false;
 }
+
+-- So many nodes leave no room for two more beside those that are there, and a tree over the points of the root box can
+-- have more of them.
+pub record IsFull (p : Problem) (nodes count : ℕ) : Type 0 where
+  pub places : nodes < count + 2
+  pub points : nodes + 1 < 2 * volume (root_box p.scenarios)
+
+-- the pool was stopped, and not for want of room
+pub record IsStopped (q : Pooled) : Type 0 where
+  pub stopped : q.stopped ≡ true
+  pub halted : q.halted ≡ false
 
 -- no node has this mark
 abbrev pub HasNone : List Slot → Mark → Type 0

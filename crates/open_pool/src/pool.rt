@@ -12,7 +12,7 @@ ghost use Rattle.bb_core.specs.Coverage.{Covers, slot_at, LevelsAreBounds, Nothi
 ghost use Rattle.bb_core.specs.Shared.{settlement_of, outcome_of, work_of, stay_of};
 ghost use Rattle.open_pool.specs.Marks.{claimed};
 ghost use Rattle.open_pool.specs.Judged.{IsScratch, AreWide};
-ghost use Rattle.open_pool.specs.Pooled.{begun, is_claimed, reopened, nodes_of};
+ghost use Rattle.open_pool.specs.Pooled.{IsFull, begun, is_claimed, reopened, nodes_of};
 ghost use Rattle.open_pool.specs.Pooled as pooled;
 ghost use Rattle.open_pool.specs.Claims.{IsClaim, ClosedIfDone, FitsProblem, IsSettled, IsAnswer, AreShort, IsSplit};
 ghost use Rattle.open_pool.specs.Ends.{ended};
@@ -51,7 +51,8 @@ pub enum Settled {
     Closed,
     /// The node is split, and its two children are open.
     Split,
-    /// There may be no two nodes more: the node is open again, and the pool is stopped.
+    /// There may be no two nodes more, though the root box has the points for them: the node is open again, and
+    /// the pool is stopped.
     Halted,
     /// The settlement isn't recorded: its node isn't claimed, its work isn't that of the node, it isn't
     /// lawful, or a level that it drops is below the cap. The node is open again if it was claimed.
@@ -221,7 +222,7 @@ impl<'p> Pool<'p> {
 
     // Stops the pool for want of places.
     fn halt(&mut self)
-        requires { self.old.nodes < length self.old.slots + 2 }
+        requires { IsFull self.old.problem self.old.nodes (length self.old.slots) }
         ensures { self.new ≡ record self.old { stopped = true; halted = true } }
     {
         self.stopped = true;
@@ -243,10 +244,10 @@ impl<'p> Pool<'p> {
     }
 
     /// Whether a settlement was answered with [`Settled::Halted`]. There are no places for two more nodes
-    /// then.
+    /// then, and fewer than 2V - 1 in all, where the root box has V points.
     pub fn is_halted(&self) -> bool
         ensures mark { result ≡ self.now.halted }
-        ensures full { self.now.halted ≡ true → self.now.nodes < length self.now.slots + 2 }
+        ensures full { self.now.halted ≡ true → IsFull self.now.problem self.now.nodes (length self.now.slots) }
     {
         self.halted
     }

@@ -1,4 +1,4 @@
-use Rattle.std.proofs.Common.{◌≡◌, ◌∙◌, sym, subst, ap, length, Ok}
+use Rattle.std.proofs.Common.{◌≡◌, ◌∙◌, sym, subst, ap, arith, length, Ok}
 use Rattle.scenario_changes.specs.Problems.{Problem, AreWithin, problem}
 use Rattle.bb_core.specs.Coverage.{Covers}
 use Rattle.open_pool.specs.Pooled.{Pooled}
@@ -24,12 +24,13 @@ returns c =
       many = c.is_covered.ensures.caps ∙ ap (λ (r : Problem). length r.scenarios) ready.pool;
       within = c.node_count-nodes.ensures.within;
       nodes = nodes;
+      grown = omega (arith, i.grown, over.grown);
       problem = ap problem ready.finder;
       sound = c.knows-2.ensures;
       first_sound = c.knows.ensures;
       worse = worse_then c.args.finder c.running.finder f i.finder c.in_ok-step.ensures.finder;
       caps = ready.caps;
-      over = over_from c.args.pool c.running.pool q i.stopped over;
+      over = over_from p c.args.pool c.running.pool q ready.pool i.stopped i.halted over;
       claims = c.in_ok-answers.ensures;
     } in
     subst (IsRun p c.args.pool c.args.finder c.in_ok-answers.answers) (sym c.into_tree.ensures) (is_run p c.args.pool c.args.finder q f c.in_ok-answers.answers end)

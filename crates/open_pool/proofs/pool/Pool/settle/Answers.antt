@@ -1,6 +1,6 @@
 use Rattle.scenario_changes.specs.Problems as problems
-use Rattle.std.proofs.Common.{arith, ◌≡◌, ◌≤◌, ◌+◌, length, sym, ◌∙◌, ap, true, List, Option, None, slice_index_or}
-use Rattle.open_pool.specs.Pooled.{Pooled}
+use Rattle.std.proofs.Common.{arith, ℕ, subst, ◌≡◌, ◌≤◌, ◌+◌, length, sym, ◌∙◌, ap, true, List, Option, None, slice_index_or}
+use Rattle.open_pool.specs.Pooled.{Pooled, IsFull, reopened}
 use Rattle.bb_core.specs.Coverage.{MaySettle, Slot, settled}
 use Rattle.open_pool.specs.PoolParts.{pooled}
 use Rattle.std.specs.Vec.{with_items}
@@ -11,14 +11,23 @@ use Rattle.open_pool.specs.Marks.{claimed, lesser_than}
 use Rattle.open_pool.specs.Ends.{ended}
 use Rattle.open_pool.specs.Claims.{IsSplit}
 use Rattle.bb_core.specs.Shared.{settlement_of, outcome_of}
-use Rattle.open_pool.proofs.SoundLaws.{settled_from, short_children, sound-settled, settled_within, with_items_is}
+use Rattle.open_pool.proofs.SoundLaws.{full_at, length_reopened, settled_from, short_children, sound-settled, settled_within, with_items_is}
 use Rattle.open_pool.proofs.pool.Pool.settle.Goals.{else-is_split-via-then-is_split+else-is_full, else-is_split-via-else-is_split}
 use Rattle.open_pool.proofs.pool.Pool.settle.Goals as goal
+
+pub halt-requires : goal.halt-requires
+halt-requires c =
+    let allowed : MaySettle (problems.problem c.self.inside.problem.now) c.self.inside.slots.items c.self.inside.caps.items claimed (settlement_of c.args.settlement) = rw (c.as_slice-slots.ensures.value, c.as_slice-caps.ensures.value) at (c.is_allowed-allowed.ensures.yes c.if-not-allowed.false) in
+    let full : IsFull (problems.problem c.self.inside.problem.now) c.self.inside.nodes (length c.self.inside.slots.items) = full_at (problems.problem c.self.inside.problem.now) c.self.inside.slots.items c.self.inside.caps.items c.self.inside.nodes (settlement_of c.args.settlement) c.self.invariant.right c.self.invariant.covered allowed (c.is_split.ensures.yes c.if-is_split.true) (c.is_full.ensures.yes c.if-is_full.true) in
+    let q : Pooled = pooled c.self.inside in
+    let long : length (reopened q.slots c.args.settlement.work.node) ≡ length q.slots = length_reopened q.slots c.args.settlement.work.node in
+    subst (λ (r : Pooled). IsFull r.problem r.nodes (length r.slots)) (sym c.give_back-then-is_full.ensures.pool) (subst (λ (n : ℕ). IsFull q.problem q.nodes n) (sym long) full)
 
 pub returns-then-is_full : goal.returns-then-is_full
 returns-then-is_full c =
     let allowed : MaySettle (problems.problem c.self.inside.problem.now) c.self.inside.slots.items c.self.inside.caps.items claimed (settlement_of c.args.settlement) = rw (c.as_slice-slots.ensures.value, c.as_slice-caps.ensures.value) at (c.is_allowed-allowed.ensures.yes c.if-not-allowed.false) in
-    rw (← c.self.view_is) (allowed, c.is_split.ensures.yes c.if-is_split.true, c.is_full.ensures.yes c.if-is_full.true, c.halt.ensures ∙ ap (λ (p : Pooled). record p { stopped = true; halted = true }) c.give_back-then-is_full.ensures.pool)
+    let full : IsFull (problems.problem c.self.inside.problem.now) c.self.inside.nodes (length c.self.inside.slots.items) = full_at (problems.problem c.self.inside.problem.now) c.self.inside.slots.items c.self.inside.caps.items c.self.inside.nodes (settlement_of c.args.settlement) c.self.invariant.right c.self.invariant.covered allowed (c.is_split.ensures.yes c.if-is_split.true) (c.is_full.ensures.yes c.if-is_full.true) in
+    rw (← c.self.view_is) (allowed, c.is_split.ensures.yes c.if-is_split.true, full, c.halt.ensures ∙ ap (λ (p : Pooled). record p { stopped = true; halted = true }) c.give_back-then-is_full.ensures.pool)
 
 pub enter-requires-clause-short : goal.enter-requires-clause-short
 enter-requires-clause-short c =
