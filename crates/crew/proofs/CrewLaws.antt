@@ -1,5 +1,5 @@
 -- What the run of the last worker is for the whole crew.
-use Rattle.std.specs.Prelude.{◌≡◌, ◌⊎◌, ◌<◌, ◌≤◌, ℕ, ◌+◌, ℤ, true, List, Option, Some, Result, Ok, Err, IfOk, IsTrue, length, map, slice_get, slice_index_or, All}
+use Rattle.std.specs.Prelude.{◌≡◌, ◌<◌, ◌≤◌, ℕ, List, Some, Result, Ok, Err, IfOk, length, slice_get, slice_index_or}
 use Rattle.std.proofs.Common.{arith, ap, sym, ◌∙◌, subst, inl, inr}
 use Rattle.std.proofs.lemmas.List.{length-map}
 use Rattle.std.proofs.lemmas.Option.{slice_get_within}
@@ -13,7 +13,7 @@ use Rattle.certs.specs.declared.level.Level.TheVariants.{Inf}
 use Rattle.incumbent_words.specs.Rule.{code_at}
 use Rattle.finder.specs.Found.{Found, IsSound, scenario_count}
 use Rattle.open_pool.specs.Pooled.{Pooled, IsFull, IsStopped, begun}
-use Rattle.alone_run.specs.Runs.{AreAbove, IsLimit, IsClaimed, IsRun, best_of, best_level, point_of}
+use Rattle.alone_run.specs.Runs.{AreAbove, IsClaimed, IsRun, best_of, best_level, point_of}
 use Rattle.alone_run.proofs.BestLaws.{best_within, best_least}
 use Rattle.alone_run.proofs.CodeOrder.{le_trans}
 use Rattle.crew.specs.Shares.{AreAtMost}

@@ -1,5 +1,5 @@
 -- What the calls under the lock leave as it was, and what they make of the caps and of what is claimed.
-use Rattle.std.specs.Prelude.{◌≡◌, ◌<◌, ◌≤◌, ◌+◌, ℕ, zero, suc, ℤ, List, [], ◌∷◌, length, replicate, slice_get, slice_index_or, slice_set, Option, Some, None, IfSome, IsTrue, Bool, true, false, cond, refl}
+use Rattle.std.specs.Prelude.{◌≡◌, ◌<◌, ◌≤◌, ◌+◌, ℕ, zero, suc, ℤ, List, [], ◌∷◌, length, replicate, slice_index_or, slice_set, Option, Some, None, IsTrue, Bool, true, false, cond, refl}
 use Rattle.std.proofs.Common.{arith, ap, sym, ◌∙◌, subst, length-set}
 use Rattle.std.proofs.lemmas.List.{get_or-replicate, get_or-set_other, length-replicate}
 use Rattle.std.proofs.lemmas.Option.{get_or_from_slice_get}
@@ -9,19 +9,18 @@ use Rattle.scenario_changes.specs.Problems as problems
 use Rattle.certs.specs.Levels.{level_le, cap_level}
 use Rattle.certs.specs.declared.level.Level.{Level}
 use Rattle.certs.specs.declared.level.Level.TheVariants.{Inf}
-use Rattle.bb_core.specs.Coverage.{Slot, Open, Held, slot_at, marked_as}
+use Rattle.bb_core.specs.Coverage.{Slot, Open, slot_at, marked_as}
 use Rattle.bb_core.specs.Settlements as made
 use Rattle.bb_core.specs.Settlements.{Settlement}
 use Rattle.bb_core.specs.declared.work.Settlement.{Settlement as Made}
 use Rattle.bb_core.specs.declared.work.Work.{Work}
 use Rattle.bb_core.proofs.ListWrites.{get-below}
-use Rattle.incumbent_words.specs.Codes.{code_of, IsValue}
 use Rattle.incumbent_words.specs.Rule.{code_at, note_of, IsNote}
 use Rattle.incumbent_words.specs.Seats.{Held as Seat}
 use Rattle.incumbent_words.specs.declared.view.View.{View}
 use Rattle.finder.specs.Found.{Found}
 use Rattle.open_pool.specs.Marks.{claimed, is_held_by}
-use Rattle.open_pool.specs.Pooled.{Pooled, HasNone, begun, is_claimed, reopened}
+use Rattle.open_pool.specs.Pooled.{Pooled, HasNone, is_claimed, reopened}
 use Rattle.open_pool.specs.Claims.{FitsProblem, IsClaim, IsSettled}
 use Rattle.open_pool.specs.declared.pool.Claim.{Claim}
 use Rattle.open_pool.specs.declared.pool.Claim.TheVariants.{Node, Wait, Done, Stopped}

@@ -1,4 +1,4 @@
-use Rattle.std.proofs.Common.{ℕ, ◌+◌, All, ap, ◌∙◌, arith}
+use Rattle.std.proofs.Common.{ℕ, ◌+◌, ap, ◌∙◌, arith}
 use Rattle.finder.specs.Found.{Found}
 use Rattle.crew.specs.Crews.{IsOf}
 use Rattle.crew.proofs.Merging.{all_then, gave_then, gave_last, length_then}

@@ -1,4 +1,4 @@
-use Rattle.std.proofs.Common.{◌≡◌, ℕ, ◌<◌, List, [], ◌∷◌, ◌++◌, length, All, sym, ◌∙◌, subst, arith, rules}
+use Rattle.std.proofs.Common.{◌≡◌, List, [], ◌∷◌, ◌++◌, length, All, sym, ◌∙◌, subst, rules}
 use Rattle.finder.specs.Found.{Found}
 use Rattle.crew.specs.Crews.{IsOf, IsAsGood, HaveAll}
 use Rattle.crew.proofs.Merging.{last_of, front_of, head_of, tail_of, all_snoc, all_cons, all_none, as_good_self, turned, merged, merged_good, all_merged}

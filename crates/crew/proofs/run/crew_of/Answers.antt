@@ -1,8 +1,7 @@
-use Rattle.std.proofs.Common.{◌≡◌, ℕ, ◌<◌, List, length, map, All, sym, ap, ◌∙◌, subst, rules}
+use Rattle.std.proofs.Common.{◌≡◌, ◌<◌, List, length, All, sym, ap, ◌∙◌, subst, rules}
 use Rattle.scenario_changes.specs.Problems.{Problem}
 use Rattle.finder.specs.Found.{Found, IsSound}
 use Rattle.open_pool.specs.Pooled.{begun}
-use Rattle.crew.specs.declared.work.Worker.{Worker}
 use Rattle.crew.specs.Crews.{IsAsGood, IsCrewRun}
 use Rattle.crew.proofs.CrewLaws.{if_ok}
 use Rattle.crew.proofs.Merging.{words_fit, workers_of, ended_of, ended_all, ended_good}

@@ -1,6 +1,5 @@
-use Rattle.std.proofs.Common.{◌≡◌, ℕ, ◌<◌, ◌≤◌, List, length, true, sym, ap, ◌∙◌, subst, arith}
-use Rattle.std.specs.Prelude.{IfOk}
-use Rattle.scenario_changes.specs.Problems.{Problem, Scenarios, problem}
+use Rattle.std.proofs.Common.{◌≡◌, ℕ, ◌<◌, ◌≤◌, List, length, sym, ap, ◌∙◌, subst, arith}
+use Rattle.scenario_changes.specs.Problems.{Problem, problem}
 use Rattle.certs.specs.declared.level.Level.{Level}
 use Rattle.incumbent_words.specs.Rule.{code_at}
 use Rattle.finder.specs.Found.{Found, IsSound, scenario_count}

@@ -1,4 +1,4 @@
-use Rattle.std.proofs.Common.{◌≡◌, ℕ, List, length, sym, ap, ◌∙◌, subst, arith}
+use Rattle.std.proofs.Common.{List, length, sym, ap, ◌∙◌, subst, arith}
 use Rattle.scenario_changes.specs.Problems.{Problem}
 use Rattle.certs.specs.declared.level.Level.{Level}
 use Rattle.bb_core.specs.Coverage.{Covers}
