@@ -16,3 +16,6 @@ mod work;
 pub use finders::finders_of;
 pub use run::{Run, run_crew};
 pub use shared::SharedPool;
+
+#[cfg(test)]
+mod tests;
