@@ -4,4 +4,6 @@ pub mod SettleLaws
 pub mod ShapeLaws
 pub mod RunLaws
 pub mod OfferLaws
+pub mod PoolLemmas
 pub mod Examples
+pub mod PoolExamples

@@ -1,3 +1,5 @@
 pub mod Marks
 pub mod Steps
 pub mod Shapes
+pub mod Pools
+pub mod PoolLaws
