@@ -1,6 +1,7 @@
 -- Worked examples of a pool as a part of the machine, by computing.
 use Rattle.std.specs.Prelude.{◌≡◌, ℕ, zero, suc, pos, negsuc, true, IsTrue, slice_get, [], ◌∷◌, List, Option, Some, None, refl}
-use Rattle.std.proofs.Common.{arith, ap, sym, ◌∙◌, subst}
+use Rattle.std.proofs.Common.{arith, rules, ap, sym, ◌∙◌, subst}
+use Rattle.int_model.specs.Programs.{Program, Feasible}
 use Rattle.scenario_changes.specs.Problems.{Problem}
 use Rattle.certs.specs.Levels.{level_le}
 use Rattle.certs.specs.declared.level.Level.{Level}
@@ -8,7 +9,8 @@ use Rattle.certs.specs.declared.level.Level.TheVariants.{Value, Inf}
 use Rattle.certs.specs.declared.verdict.Verdict.TheVariants.{Point}
 use Rattle.bb_core.specs.Settlements.{Settlement, Close}
 use Rattle.bb_core.specs.Coverage.{Mark, Slot, Closed, Open, Held, MaySettle, ReachesCaps, marked_as, root_slot, settled}
-use Rattle.bb_core.specs.Machine.{State, Claim, Settle, GiveBack, Note, after, begin}
+use Rattle.bb_core.specs.Machine.{State, Claim, Settle, GiveBack, Note, after, begin, word_at}
+use Rattle.bb_core.specs.Interleavings.{IsOptimum}
 use Rattle.open_pool.specs.Marks.{claimed}
 use Rattle.open_pool.specs.Pooled.{Pooled, begun, reopened}
 use Rattle.open_pool.specs.declared.pool.Claim.TheVariants.{Wait, Done}
@@ -17,8 +19,11 @@ use Rattle.core_machine.specs.Pools.{IsPart, IsEvent, IsClaimBy, AreLesser, answ
 use Rattle.core_machine.proofs.PoolLemmas.{judged-alike}
 
 -- one scenario without columns or rows
+abbrev empty_program : Program
+empty_program = record { costs = []; constant = pos 0; bounds = []; rows = []; ends = [] }
+
 abbrev p : Problem
-p = record { columns = 0; rows = 0; scenarios = record { costs = []; constant = pos 0; bounds = []; rows = []; ends = [] } ∷ [] }
+p = record { columns = 0; rows = 0; scenarios = empty_program ∷ [] }
 
 -- actor 1 of two holds the root
 abbrev held : State
@@ -73,6 +78,13 @@ holds_one now h = h.allowed.1 0 (record (root_slot p) { mark = Held 1 }) refl re
 -- where a node is held the work isn't done, and may have to be waited for
 not_done : IsClaimBy p held 0 claimed_pool Done → ⊥
 not_done h = let e : Held 1 ≡ Closed = h.1 0 (record (root_slot p) { mark = Held 1 }) refl in absurd (cc)
+
+-- and no offer was made yet, though the point without numbers is feasible
+empty_point : Feasible empty_program []
+empty_point = search rules
+
+no_optimum : IsOptimum empty_program (word_at held 0) → ⊥
+no_optimum h = h [] empty_point
 
 waits : IsClaimBy p held 0 claimed_pool Wait
 waits = part_of_held

@@ -2,7 +2,8 @@
 use Rattle.std.specs.Prelude.{◌≡◌, ℕ, zero, suc, ◌+◌, ◌<◌, ◌≤◌, List, [], ◌∷◌, ◌++◌, length, slice_get, slice_set, slice_index_or, Some, true, refl}
 use Rattle.std.proofs.Common.{arith, ap, sym, ◌∙◌, subst}
 use Rattle.std.proofs.lemmas.List.{map-append, map-set, length-map}
-use Rattle.scenario_changes.specs.Problems.{Problem}
+use Rattle.int_model.specs.Programs.{Program}
+use Rattle.scenario_changes.specs.Problems.{Problem, AreWithin}
 use Rattle.certs.specs.Levels.{lesser_level}
 use Rattle.certs.specs.declared.level.Level.{Level}
 use Rattle.certs.specs.declared.level.Level.TheVariants.{Value, Inf}
@@ -10,9 +11,10 @@ use Rattle.bb_core.specs.Settlements.{Settlement, Outcome, Close, Branch, IsLawf
 use Rattle.certs.specs.Trees.{end_levels}
 use Rattle.bb_core.specs.Coverage.{Slot, Mark, Closed, Open, Held, Stands, MaySettle, ReachesCaps, slot_at, marked_as, settled, new_slots}
 use Rattle.bb_core.specs.Machine as machine
-use Rattle.bb_core.specs.Machine.{State, Allowed, HasRoom, HoldsNone, after, begin, held_at, lesser_each, view_at}
-use Rattle.bb_core.specs.Interleavings.{HoldsOneEach, IsFinished}
+use Rattle.bb_core.specs.Machine.{State, Allowed, HasRoom, HoldsNone, Reached, after, begin, held_at, lesser_each, view_at, word_at}
+use Rattle.bb_core.specs.Interleavings.{HoldsOneEach, IsFinished, IsOptimum}
 use Rattle.bb_core.proofs.ListWrites.{map-get}
+use Rattle.bb_core.proofs.MachineLaws.{led-holds}
 use Rattle.open_pool.specs.Marks.{claimed, is_held_by}
 use Rattle.open_pool.specs.Pooled.{Pooled, HasNone, begun, is_claimed, reopened}
 use Rattle.open_pool.specs.Claims.{IsClaim, IsSettled, IsSplit}
@@ -132,6 +134,12 @@ claimed-by p st a was now Done h l none g = (
   finished_part st.slots (subst (λ (slots : List Slot). HasNone slots Open) h.slots g.1) (subst (λ (slots : List Slot). HasNone slots claimed) h.slots g.2),
 )
 claimed-by p st a was now Stopped h l none g = part_same p was now st g.1 h
+
+pub done-optima : (p : Problem) (st : State) (was now : Pooled) → AreWithin p → Reached p st → IsPart p was st → IsClaim was now Done → (k : ℕ) (s : Program) → slice_get p.scenarios k ≡ Some s → IsOptimum s (word_at st k)
+done-optima p st was now limits reached h g =
+    let none_open : HasNone (pool_slots st.slots) Open = subst (λ (slots : List Slot). HasNone slots Open) h.slots g.1 in
+    let none_claimed : HasNone (pool_slots st.slots) claimed = subst (λ (slots : List Slot). HasNone slots claimed) h.slots g.2 in
+    (led-holds p limits reached.actors reached.events st reached.led).optima (finished_part st.slots none_open none_claimed)
 
 may_here : (p : Problem) (was : Pooled) (st : State) (a : ℕ) (s : Settlement) → IsPart p was st → Stands st.slots s.work.node (Held a) → MaySettle was.problem was.slots was.caps claimed s → MaySettle p st.slots st.caps (Held a) s
 may_here p was st a s h t m = from_part p st.slots st.caps a s t

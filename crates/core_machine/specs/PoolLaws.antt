@@ -1,15 +1,17 @@
 -- What is proved of a pool as a part of the machine: its calls are events.
-use Rattle.std.specs.Prelude.{◌≡◌, ℕ, ◌<◌, ◌≤◌, List, length}
-use Rattle.scenario_changes.specs.Problems.{Problem}
+use Rattle.std.specs.Prelude.{◌≡◌, ℕ, ◌<◌, ◌≤◌, List, length, slice_get, Some}
+use Rattle.int_model.specs.Programs.{Program}
+use Rattle.scenario_changes.specs.Problems.{Problem, AreWithin}
 use Rattle.certs.specs.declared.level.Level.{Level}
 use Rattle.bb_core.specs.Settlements.{Settlement}
 use Rattle.bb_core.specs.Coverage.{Slot, Held, Stands, MaySettle}
-use Rattle.bb_core.specs.Machine.{State, Note, GiveBack, HoldsNone, begin, view_at, lesser_each}
-use Rattle.bb_core.specs.Interleavings.{HoldsOneEach}
+use Rattle.bb_core.specs.Machine.{State, Note, GiveBack, HoldsNone, Reached, begin, view_at, word_at, lesser_each}
+use Rattle.bb_core.specs.Interleavings.{HoldsOneEach, IsOptimum}
 use Rattle.open_pool.specs.Marks.{claimed}
 use Rattle.open_pool.specs.Pooled.{Pooled, begun, reopened}
 use Rattle.open_pool.specs.Claims.{IsClaim, IsSettled}
 use Rattle.open_pool.specs.declared.pool.Claim.{Claim}
+use Rattle.open_pool.specs.declared.pool.Claim.TheVariants.{Done}
 use Rattle.open_pool.specs.declared.pool.Settled.{Settled}
 use Rattle.core_machine.specs.Pools.{IsPart, IsEvent, IsClaimBy, AreLesser, answer_event, pool_slots}
 
@@ -39,3 +41,7 @@ NotesAreEvents = (p : Problem) (st : State) (a : ℕ) (was now : Pooled) → IsP
 -- or each of them in turn
 abbrev pub LoweredCapsAreNotes : Type 0
 LoweredCapsAreNotes = (p : Problem) (st : State) (a : ℕ) (was now : Pooled) → IsPart p was st → a < length st.views → AreLesser was.caps now.caps (view_at st a) → now ≡ record was { caps = now.caps } → IsEvent p st (Note a) now
+
+-- where the pool of a reached state says that the work is done, each word is its scenario's optimum
+abbrev pub DoneHasOptima : Type 0
+DoneHasOptima = (p : Problem) (st : State) (was now : Pooled) → AreWithin p → Reached p st → IsPart p was st → IsClaim was now Done → (k : ℕ) (s : Program) → slice_get p.scenarios k ≡ Some s → IsOptimum s (word_at st k)

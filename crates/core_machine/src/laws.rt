@@ -1,6 +1,6 @@
 //! A pool is a part of the machine: laws over the relations of `open_pool`'s calls. Each function has no
 //! code, and its contract is the law.
-ghost use Rattle.core_machine.specs.PoolLaws.{ClaimsAreEvents, GiveBacksAreEvents, LoweredCapsAreNotes, NotesAreEvents, PoolsBeginAsParts, SettlementsAreEvents, SettlementsAreJudgedAlike};
+ghost use Rattle.core_machine.specs.PoolLaws.{ClaimsAreEvents, DoneHasOptima, GiveBacksAreEvents, LoweredCapsAreNotes, NotesAreEvents, PoolsBeginAsParts, SettlementsAreEvents, SettlementsAreJudgedAlike};
 
 /// The pool of a problem at its start is a part of the machine at its start.
 pub fn pools_begin_as_parts()
@@ -38,4 +38,10 @@ pub fn notes_are_events()
 /// Caps of which each becomes the lesser of itself and an actor's are its Note, too.
 pub fn lowered_caps_are_notes()
     ensures { LoweredCapsAreNotes }
+{}
+
+/// Whatever the order of the events: where the pool of a state that they lead to answers `Done`, each word
+/// is its scenario's optimum, or none where nothing is feasible.
+pub fn done_has_optima()
+    ensures { DoneHasOptima }
 {}
