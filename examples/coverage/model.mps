@@ -1,4 +1,4 @@
-* Crews at thirty rescue posts, by day and by night, for 32 districts. Costs are in euros a day.
+* Crews at thirty rescue posts, by day and by night, for 32 districts. Costs are in 10 euros a day.
 NAME coverage
 ROWS
  N cost
