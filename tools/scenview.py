@@ -320,7 +320,8 @@ def place_nodes(nodes, scenarios):
 
 
 def belong_together(report, log):
-    """Refuses a log whose claims are not the report's answers. A log states the value that is minimised."""
+    """Refuses a log whose claims are not the report's answers. A log states the value that is minimised, so the two also
+    tell the direction where a value is not 0."""
     if len(log.claims) != len(report.answers):
         raise Refused("the log has %d scenarios and the report %d" % (len(log.claims), len(report.answers)))
     if report.columns is not None and log.columns != len(report.columns):
@@ -332,8 +333,11 @@ def belong_together(report, log):
             raise Refused("scenario %d: the log claims another answer than the report has" % k)
     turned = lambda number, sign: None if number is None else sign * number
     agrees = lambda c, a, sign: (turned(c.value, sign), turned(c.bound, sign)) == (a.value, a.bound)
-    if not any(all(agrees(c, a, sign) for c, a in pairs) for sign in signs):
+    fit = [sign for sign in signs if all(agrees(c, a, sign) for c, a in pairs)]
+    if not fit:
         raise Refused("the log claims other values than the report has")
+    if len(fit) == 1:
+        report.direction = "min" if fit[0] == 1 else "max"
 
 
 # --------------------------------------------------------------------------------------------------- making a page
@@ -359,7 +363,7 @@ def shown(name, most=None):
 
 def grouped(number, plus=False):
     """A number with thin spaces between groups of three digits, and a true minus sign."""
-    text = ("{:+,}" if plus else "{:,}").format(number)
+    text = ("{:+,}" if plus and number else "{:,}").format(number)
     return text.replace(",", "\u202f").replace("-", "\u2212")
 
 
@@ -399,7 +403,7 @@ def scenario_table(report):
         cells = [answer.status, "none" if answer.value is None else grouped(answer.value)]
         if limits:
             cells.append("none" if answer.bound is None else grouped(answer.bound))
-        cells.append("\u2013" if gap is None else grouped(gap, True) if gap else "0")
+        cells.append("\u2013" if gap is None else grouped(gap, True))
         cells.append("\u2013" if other is None else "%d of %d" % (len(other), len(answer.point)))
         out.append('<tr class="%s"><th scope="row">%s</th>' % (answer.status, title_of(k, answer)))
         out += ['<td data-label="%s">%s</td>' % pair for pair in zip(heads[1:], cells)]
@@ -416,16 +420,17 @@ def bars(report, title, numbers, plus):
     place = lambda n: 100.0 * (n - least) / span
     out = ['<svg class="bars" role="img" aria-label="%s: one bar for each scenario; the numbers stand in the table above." '
            'width="100%%" height="%d">' % (title, 40 * len(numbers) + 4)]
+    out.append('<line x1="%.3f%%" x2="%.3f%%" y1="0" y2="%d"/>' % (place(0), place(0), 40 * len(numbers) + 4))
     for k, (answer, number) in enumerate(zip(report.answers, numbers)):
         top = 40 * k
         label = "%d" % k if answer.name == b"-" else "%d %s" % (k, shown(answer.name, 24))
         text = (answer.status if answer.value is None else "not comparable") if number is None else grouped(number, plus)
         mark = " (limit)" if answer.status == "limit" and number is not None else ""
-        out.append('<text x="0" y="%d">%s: %s%s</text>' % (top + 14, label, text, mark))
+        out.append('<text x="3" y="%d">%s: %s%s</text>' % (top + 14, label, text, mark))
         if number is not None:
             at, wide = place(min(number, 0)), 100.0 * abs(number) / span
             out.append('<rect class="%s" x="%.3f%%" y="%d" width="%.3f%%" height="14"/>' % (answer.status, at, top + 19, wide))
-    out.append('<line x1="%.3f%%" x2="%.3f%%" y1="0" y2="%d"/></svg>' % (place(0), place(0), 40 * len(numbers) + 4))
+    out.append("</svg>")
     return "".join(out)
 
 
@@ -577,9 +582,9 @@ p,bdi{overflow-wrap:anywhere}.note{border-left:4px solid #555;padding-left:.75re
 table{border-collapse:collapse;width:100%}caption{text-align:left;font-weight:bold;padding:.4rem 0}
 th,td{border:1px solid #777;padding:.25rem .5rem;text-align:left;vertical-align:top}thead th{background:#eee}
 td{font-variant-numeric:tabular-nums}.points td{text-align:right}.infeasible td{font-style:italic}
-.points{width:auto}.points th{max-width:16rem;min-width:3.5rem;font-weight:normal;overflow-wrap:anywhere}
+.points{width:auto}.points th{max-width:16rem;min-width:6rem;font-weight:normal;overflow-wrap:anywhere}
 .wide{overflow-x:auto;margin-bottom:1rem}.wide:focus{outline:2px solid #000}
-svg text{font:13px system-ui,sans-serif;fill:#000}svg{display:block}
+svg text{font:13px system-ui,sans-serif;fill:#000;stroke:#fff;stroke-width:4px;paint-order:stroke}svg{display:block}
 .bars rect{fill:#444;stroke:#000}.bars rect.limit{fill:#fff;stroke-dasharray:4 3}.bars line{stroke:#000;stroke-width:2}
 .tree path{fill:none;stroke:#777}.tree circle{fill:#fff;stroke:#000;stroke-width:1.5}.tree circle.split{fill:#000}
 .tree circle.rest{stroke-dasharray:2 2}.tree rect{fill:#fff;stroke:#000}.tree rect.stay{fill:#000}.tree rect.open{stroke-dasharray:2 2}
@@ -625,7 +630,7 @@ def make_page(report_path, log_path):
         with open(log_path, "rb") as file:
             log = read_log(file)
         belong_together(report, log)
-    return page(report, log, shown(os.fsencode(os.path.basename(report_path)).replace(b" ", b"_")))
+    return page(report, log, shown(os.fsencode(report_path)))
 
 
 def main(words):

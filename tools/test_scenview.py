@@ -183,6 +183,13 @@ class Logs(unittest.TestCase):
         self.assertIn("node 1: column 0 ≤ 0. Live 0; end 0 (a row can't be met)", page)
         self.assertIn("3 nodes: 1 splits, 2 leaves, 0 not searched", page)
 
+    def test_a_log_tells_the_direction(self):
+        text = one_column(b"x")
+        log = b"scenlog 1\nsize 1 1 0 1\nclaim optimal -3 3\nleaf\nsteps 0\nverdicts p\nend\n"
+        self.assertNotIn("maximised", made(text))
+        self.assertIn("The value is maximised", made(text, log))
+        self.assertIn("The value is minimised", made(text, log.replace(b"-3", b"3")))
+
     def test_every_front_is_refused(self):
         text = model("s4.log")
         for end in range(len(text)):
