@@ -344,7 +344,7 @@ def belong_together(report, log):
 
 
 def shown(name, most=None):
-    """A name as text that can be printed, different for different names, cut to a number of characters."""
+    """A name as text that can be printed, different for different names unless it is cut to a number of characters."""
     text = []
     for char in name.decode("utf-8", "surrogateescape"):
         code = ord(char)
@@ -583,6 +583,7 @@ table{border-collapse:collapse;width:100%}caption{text-align:left;font-weight:bo
 th,td{border:1px solid #777;padding:.25rem .5rem;text-align:left;vertical-align:top}thead th{background:#eee}
 td{font-variant-numeric:tabular-nums}.points td{text-align:right}.infeasible td{font-style:italic}
 .points{width:auto}.points th{max-width:16rem;min-width:6rem;font-weight:normal;overflow-wrap:anywhere}
+.points th:first-child{min-width:8.5rem;position:sticky;left:0;background:#eee}
 .wide{overflow-x:auto;margin-bottom:1rem}.wide:focus{outline:2px solid #000}
 svg text{font:13px system-ui,sans-serif;fill:#000;stroke:#fff;stroke-width:4px;paint-order:stroke}svg{display:block}
 .bars rect{fill:#444;stroke:#000}.bars rect.limit{fill:#fff;stroke-dasharray:4 3}.bars line{stroke:#000;stroke-width:2}
@@ -592,7 +593,7 @@ summary{cursor:pointer;padding:.4rem 0}
 @media (max-width:640px){.cards thead{position:absolute;clip-path:inset(50%);width:1px;height:1px;overflow:hidden}
 .cards,.cards caption,.cards tbody,.cards tr,.cards th,.cards td{display:block}.cards tr{border:1px solid #777;margin-bottom:.6rem}
 .cards th,.cards td{border:0;padding:.15rem .6rem}.cards th{background:#eee}.cards td:before{content:attr(data-label) ": "}}
-@media print{body{max-width:none;font-size:11pt}.wide{overflow:visible}.tree{max-width:100%;height:auto}
+@media print{body{max-width:none;font-size:11pt}.wide{overflow:visible}.points th:first-child{position:static}.tree{max-width:100%;height:auto}
 .points{font-size:8pt}tr,svg.bars{break-inside:avoid}}
 """
 
