@@ -395,9 +395,10 @@ def differing(answer, base):
 def scenario_table(report):
     base, limits = report.answers[0], any(a.status == "limit" for a in report.answers)
     heads = ["Scenario", "Status", "Value"] + ["Bound"] * limits + ["Difference to 0", "Columns that differ from 0"]
-    out = ['<table class="cards"><caption>Scenarios side by side</caption><thead><tr>']
-    out += ['<th scope="col">%s</th>' % head for head in heads]
-    out.append("</tr></thead><tbody>")
+    # The roles keep this a table for screen readers where narrow windows show it as cards.
+    out = ['<table class="cards" role="table"><caption>Scenarios side by side</caption><thead role="rowgroup"><tr role="row">']
+    out += ['<th scope="col" role="columnheader">%s</th>' % head for head in heads]
+    out.append('</tr></thead><tbody role="rowgroup">')
     for k, answer in enumerate(report.answers):
         gap, other = difference(answer, base), differing(answer, base)
         cells = [answer.status, "none" if answer.value is None else grouped(answer.value)]
@@ -405,8 +406,8 @@ def scenario_table(report):
             cells.append("none" if answer.bound is None else grouped(answer.bound))
         cells.append("\u2013" if gap is None else grouped(gap, True))
         cells.append("\u2013" if other is None else "%d of %d" % (len(other), len(answer.point)))
-        out.append('<tr class="%s"><th scope="row">%s</th>' % (answer.status, title_of(k, answer)))
-        out += ['<td data-label="%s">%s</td>' % pair for pair in zip(heads[1:], cells)]
+        out.append('<tr class="%s" role="row"><th scope="row" role="rowheader">%s</th>' % (answer.status, title_of(k, answer)))
+        out += ['<td role="cell" data-label="%s">%s</td>' % pair for pair in zip(heads[1:], cells)]
         out.append("</tr>")
     out.append("</tbody></table>")
     return "".join(out)
