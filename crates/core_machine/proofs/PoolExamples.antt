@@ -153,6 +153,15 @@ given_back = record {
   part = record { problem = refl; slots = refl; caps = refl };
 }
 
+-- an open node stays open, and the machine has nothing to do
+open_stays : IsPart p (record (begun p 9) { slots = reopened (begun p 9).slots 0 }) (begin p 2)
+open_stays = record { problem = refl; slots = refl; caps = refl }
+
+-- but a held one is opened, and that is an event
+held_opens : IsPart p (record claimed_pool { slots = reopened claimed_pool.slots 0 }) held → ⊥
+unfolding first_mark
+held_opens h = let e : Open ≡ claimed = ap first_mark h.slots in absurd (cc)
+
 -- who holds none gives none back
 nothing_held : (now : Pooled) → IsEvent p held (GiveBack 0) now → ⊥
 nothing_held now h = absurd (let e : slice_get held.slots 1 ≡ Some h.allowed.1.slot = h.allowed.1.found in cc)

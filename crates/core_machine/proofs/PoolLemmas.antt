@@ -1,5 +1,5 @@
 -- A pool as a part of the machine.
-use Rattle.std.specs.Prelude.{◌≡◌, ℕ, zero, suc, ◌+◌, ◌<◌, ◌≤◌, List, [], ◌∷◌, ◌++◌, length, slice_get, slice_set, slice_index_or, Some, true, refl}
+use Rattle.std.specs.Prelude.{◌≡◌, ℕ, zero, suc, ◌+◌, ◌<◌, ◌≤◌, List, [], ◌∷◌, ◌++◌, length, slice_get, slice_set, slice_index_or, Some, true, false, refl}
 use Rattle.std.proofs.Common.{arith, ap, sym, ◌∙◌, subst}
 use Rattle.std.proofs.lemmas.List.{map-append, map-set, length-map}
 use Rattle.int_model.specs.Programs.{Program}
@@ -194,6 +194,26 @@ given-back p st a n was now h l one t ep ec es =
         caps = ec ∙ h.caps;
       };
     }
+
+held_stands : (slots : List Slot) (n a : ℕ) → (slot_at slots n).mark ≡ Held a → Stands slots n (Held a)
+held_stands [] n a e = absurd (let g : Closed ≡ Held a = e in cc)
+held_stands (t ∷ slots) zero a e = record { slot = t; found = refl; marked = e }
+held_stands (t ∷ slots) (suc n) a e =
+    let h = held_stands slots n a e in record { slot = h.slot; found = h.found; marked = h.marked }
+
+unclaimed : (slots : List Slot) (n : ℕ) → ((a : ℕ) → Stands slots n (Held a) → ⊥) → is_claimed (pool_slots slots) n ≡ false
+unclaimed slots n none = ap (λ (u : Slot). is_held_by 0 u.mark) (slot_part slots n) ∙ by_mark (slot_at slots n).mark refl
+  where
+    by_mark : (m : Mark) → (slot_at slots n).mark ≡ m → is_held_by 0 (pool_mark (slot_at slots n).mark) ≡ false
+    by_mark Closed e = ap (λ (m : Mark). is_held_by 0 (pool_mark m)) e
+    by_mark Open e = ap (λ (m : Mark). is_held_by 0 (pool_mark m)) e
+    by_mark (Held a) e = absurd (none a (held_stands slots n a e))
+
+pub stays-part : (p : Problem) (st : State) (n : ℕ) (was now : Pooled) → IsPart p was st → ((a : ℕ) → Stands st.slots n (Held a) → ⊥) → now ≡ record was { slots = reopened was.slots n } → IsPart p now st
+stays-part p st n was now h none e =
+    let no : is_claimed (pool_slots st.slots) n ≡ false = unclaimed st.slots n none in
+    let same : reopened (pool_slots st.slots) n ≡ pool_slots st.slots = rw no refl in
+    part_slots p was now st st (reopened was.slots n) h refl e (ap (λ (slots : List Slot). reopened slots n) h.slots ∙ same)
 
 pub reopened-by : (p : Problem) (st : State) (a n : ℕ) (was now : Pooled) → IsPart p was st → a < length st.views → HoldsOneEach st.slots → Stands st.slots n (Held a) → now ≡ record was { slots = reopened was.slots n } → IsEvent p st (machine.GiveBack a) now
 reopened-by p st a n was now h l one t e = given-back p st a n was now h l one t (ap (λ (q : Pooled). q.problem) e) (ap (λ (q : Pooled). q.caps) e) (ap (λ (q : Pooled). q.slots) e)

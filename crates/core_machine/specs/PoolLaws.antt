@@ -34,11 +34,15 @@ SettlementsAreEvents = (p : Problem) (st : State) (a : ℕ) (was now : Pooled) (
 abbrev pub GiveBacksAreEvents : Type 0
 GiveBacksAreEvents = (p : Problem) (st : State) (a n : ℕ) (was now : Pooled) → IsPart p was st → a < length st.views → HoldsOneEach st.slots → Stands st.slots n (Held a) → now ≡ record was { slots = reopened was.slots n } → IsEvent p st (GiveBack a) now
 
+-- a node that nobody holds isn't opened by giving it back, which is no event
+abbrev pub OtherGiveBacksAreNone : Type 0
+OtherGiveBacksAreNone = (p : Problem) (st : State) (n : ℕ) (was now : Pooled) → IsPart p was st → ((a : ℕ) → Stands st.slots n (Held a) → ⊥) → now ≡ record was { slots = reopened was.slots n } → IsPart p now st
+
 -- the caps become the lesser of themselves and an actor's, all at once
 abbrev pub NotesAreEvents : Type 0
 NotesAreEvents = (p : Problem) (st : State) (a : ℕ) (was now : Pooled) → IsPart p was st → a < length st.views → now ≡ record was { caps = lesser_each was.caps (view_at st a) } → IsEvent p st (Note a) now
 
--- or each of them in turn
+-- or place by place
 abbrev pub LoweredCapsAreNotes : Type 0
 LoweredCapsAreNotes = (p : Problem) (st : State) (a : ℕ) (was now : Pooled) → IsPart p was st → a < length st.views → AreLesser was.caps now.caps (view_at st a) → now ≡ record was { caps = now.caps } → IsEvent p st (Note a) now
 

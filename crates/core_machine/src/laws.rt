@@ -1,6 +1,6 @@
 //! A pool is a part of the machine: laws over the relations of `open_pool`'s calls. Each function has no
 //! code, and its contract is the law.
-ghost use Rattle.core_machine.specs.PoolLaws.{ClaimsAreEvents, DoneHasOptima, GiveBacksAreEvents, LoweredCapsAreNotes, NotesAreEvents, PoolsBeginAsParts, SettlementsAreEvents, SettlementsAreJudgedAlike};
+ghost use Rattle.core_machine.specs.PoolLaws.{ClaimsAreEvents, DoneHasOptima, GiveBacksAreEvents, LoweredCapsAreNotes, NotesAreEvents, OtherGiveBacksAreNone, PoolsBeginAsParts, SettlementsAreEvents, SettlementsAreJudgedAlike};
 
 /// The pool of a problem at its start is a part of the machine at its start.
 pub fn pools_begin_as_parts()
@@ -28,6 +28,11 @@ pub fn settlements_are_events()
 /// A node that is given back is its holder's GiveBack.
 pub fn give_backs_are_events()
     ensures { GiveBacksAreEvents }
+{}
+
+/// To give back a node that nobody holds is no event.
+pub fn other_give_backs_are_none()
+    ensures { OtherGiveBacksAreNone }
 {}
 
 /// Caps that become the lesser of themselves and an actor's are its Note.
