@@ -1,4 +1,4 @@
 mod PointLemmas
 mod WalkLemmas
 mod CheckLemmas
-mod RefusalLemmas
+pub mod RefusalLemmas

@@ -16,3 +16,5 @@ pub mod TextCuts
 pub mod FileLines
 pub mod Completions
 pub mod RoundTrip
+pub mod AcceptedLaws
+pub mod LengthLaws

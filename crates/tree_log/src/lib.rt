@@ -14,6 +14,7 @@ mod draft;
 mod fault;
 mod file;
 pub mod laws;
+mod limits;
 mod node_lines;
 mod nodes;
 mod numbers;

@@ -2,8 +2,10 @@
 ghost use Rattle.std.specs.Prelude.{◌≡◌, ◌++◌, length, IfOk, OnOk};
 ghost use Rattle.tree_log.specs.LogText.{size_line, first_line, log_text};
 ghost use Rattle.tree_log.specs.Logs.{file_of};
+ghost use Rattle.tree_log.specs.Laws.{IsReadable};
 
 use crate::claims::push_claims;
+use crate::limits::keep_limits;
 use crate::nodes::push_nodes;
 use crate::words::push_count;
 use certs::Tree;
@@ -31,7 +33,7 @@ fn push_size(
 
 /// The log of claims on the scenarios of a problem and of a search tree, with the problem's counts of columns
 /// and rows. It is a log that can be read again where every number and count keeps its range
-/// (`specs/HasText.antt`).
+/// (`specs/HasText.antt`), as they do where the tree shows the claims.
 #[tactic(auto, unfolding(crate::specs::LogText::log_text, crate::specs::LogText::first_line, crate::specs::LogText::last_line))]
 pub fn write_log(
     alloc: Global,
@@ -39,8 +41,12 @@ pub fn write_log(
     answers: &Answers,
     tree: &Tree,
 ) -> Result<Vec<u8>, AllocError>
-    ensures { IfOk result (λ text. text.items ≡ log_text (file_of problem.now answers.now tree.now)) }
+    ensures text { IfOk result (λ text. text.items ≡ log_text (file_of problem.now answers.now tree.now)) }
+    ensures again { IfOk result (λ _. IsReadable problem.now answers.now tree.now) }
 {
+    // These calls tell that the problem and the vectors keep their limits.
+    let _count = problem.count();
+    keep_limits(tree.as_slice());
     let mut out = Vec::new(alloc);
     out.extend_from_slice(b"scenlog 1\n")?;
     push_size(&mut out, problem, answers, tree)?;
