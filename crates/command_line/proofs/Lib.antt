@@ -1,3 +1,4 @@
 mod NumberLemmas
 mod OptionLemmas
 mod WordExamples
+mod RangeLemmas

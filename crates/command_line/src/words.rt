@@ -1,7 +1,7 @@
 // The commands that words are.
-ghost use Rattle.std.specs.Prelude.{◌≡◌, map, option_map, string_bytes};
+ghost use Rattle.std.specs.Prelude.{◌≡◌, IfOk, map, option_map, string_bytes};
 ghost use Rattle.command_line.specs.Words.{command_of, solve_of, check_of, generate_of};
-ghost use Rattle.command_line.specs.Orders.{order_of, Means};
+ghost use Rattle.command_line.specs.Orders.{order_of, AreInRange, Means};
 
 use crate::command::{Command, UsageError};
 use crate::options::read_options;
@@ -88,7 +88,8 @@ fn read_command(words: &[String]) -> Option<Command<'_>>
 ///
 /// CHANGES may also be `-`, for no scenarios.
 pub fn read_words(words: &[String]) -> Result<Command<'_>, UsageError>
-    ensures { Means (map string_bytes words.now) result }
+    ensures means { Means (map string_bytes words.now) result }
+    ensures ranges { IfOk result (λ command. AreInRange (order_of command)) }
 {
     match read_command(words) {
         Some(command) => Ok(command),
