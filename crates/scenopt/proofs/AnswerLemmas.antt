@@ -19,9 +19,16 @@ use Rattle.certs.proofs.LimitLaws.{bound-fits}
 use Rattle.certs.proofs.TreeLaws.{slice_get-some}
 use Rattle.scen_report.specs.Reports.{Fits}
 use Rattle.finder.specs.Found.{Found}
-use Rattle.open_pool.specs.Pooled.{Pooled}
+use Rattle.open_pool.specs.Pooled.{Pooled, begun}
+use Rattle.crew.specs.Crews.{IsCrewRun}
+use Rattle.scenopt.specs.Answered.{IsSolved}
 use Rattle.certs.specs.declared.tree.Node.{Node}
 use Rattle.alone_run.specs.Runs.{IsRun, point_of}
+
+-- what a crew's run ends with, of one finder or more, is what a run of one worker ends with
+pub crew_is_solved : (p : Scenarios) (nodes : ℕ) (finders : List Found) (answers : List Answer) (tree : List Node) → 0 < length finders → IsCrewRun (problem p) (begun (problem p) nodes) finders answers tree → IsSolved p nodes answers tree
+crew_is_solved p nodes [] answers tree some h = absurd (omega (arith, some))
+crew_is_solved p nodes (f ∷ finders) answers tree some h = record { finder = f; run = h 0 f some }
 
 pub if_ok : {T E : Type 0} (r : Result T E) (P Q : T → Type 0) → ((t : T) → P t → Q t) → IfOk r P → IfOk r Q
 if_ok (Ok t) P Q f h = f t h

@@ -1,3 +1,5 @@
-mod WordLemmas
 mod RunLemmas
+mod CompleteLemmas
+mod LogLemmas
+mod DeliveryLemmas
 mod AnswerLemmas

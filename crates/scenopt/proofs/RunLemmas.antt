@@ -1,27 +1,28 @@
 -- How the steps of a run add up.
 use Rattle.std.proofs.Common.{◌≡◌, ◌∙◌, ap, sym, subst, ℕ, suc, ◌+◌, ◌≤◌, List, [], ◌∷◌, ◌++◌, length, take, Option, Some, None, option_map, Result, Ok, Err, Vec, ◌⊎◌, inl, inr, refl, arith, append_assoc}
 use Rattle.std.proofs.lemmas.List.{take_all, append-nil}
+use Rattle.std.specs.declared.alloc.Global.{Global}
+use Rattle.std.specs.declared.alloc.AllocError.{AllocError}
+use Rattle.std.specs.Option.{IsSome}
+use Rattle.std.specs.Result.{IfOk, IfErr, IsErrAnd, MatchResult}
+use Rattle.std.specs.FinMap as map
 use Rattle.desk.specs.Causes.{Rose}
 use Rattle.desk.specs.Desk.{View, Files, Appends, WriteHasCause}
 use Rattle.desk.specs.declared.DeskError.{DeskError}
 use Rattle.desk.specs.declared.DeskError.TheVariants.{Failed, Memory}
-use Rattle.scenopt.specs.Messages.{unreadable, unwritable, out_of_memory}
-use Rattle.std.specs.declared.alloc.Global.{Global}
-use Rattle.std.specs.declared.alloc.AllocError.{AllocError}
-use Rattle.std.specs.Result.{IfOk, IfErr, IsErrAnd, MatchResult}
 use Rattle.int_model.specs.Models.{IntegerModel}
 use Rattle.scenario_changes.specs.Changes.{Change}
 use Rattle.scenario_changes.specs.Problems.{Scenarios}
-use Rattle.scenopt.specs.declared.input.Input.TheVariants.{Model, Changes}
-use Rattle.scenopt.specs.Words.{Inputs, IsSolve}
-use Rattle.scenopt.proofs.WordLemmas.{same_inputs}
-use Rattle.scenopt.specs.Runs.{Runs, Solves, Reports, HasModel, HasChanges, HasProblem, IsChangesRefusal, IsRefusal, StopsAtInput, names_of, names_to, Adds, AddsFront, Tries, AddsNames, Tells, Refuses, Misses, Lacks, Stops, Stays, Fetches, OnlyWarns, refused}
+use Rattle.command_line.specs.Words.{Inputs}
+use Rattle.scenopt.specs.Messages.{unreadable, unwritable, unwritable_log, out_of_memory}
+use Rattle.scenopt.specs.Files.{HasModel, HasChanges, HasProblem, name_of, names_of, names_to}
+use Rattle.scenopt.specs.Endings.{refused, Adds, AddsFront, Tries, AddsNames, Writes, WritesFront, IsChangesRefusal, IsLogRefusal, IsRefusal, Tells, Refuses, Misses, Lacks, Stops, StopsAtInput, Prints, Stays, Fetches, OnlyWarns}
 use Rattle.scenopt.specs.declared.input.Input.{Input}
-use Rattle.scenopt.specs.declared.run.Status.{Status}
-use Rattle.scenopt.specs.declared.run.Status.TheVariants as status
+use Rattle.scenopt.specs.declared.input.Input.TheVariants.{Model, Changes, Log}
+use Rattle.scenopt.specs.declared.status.Status.{Status}
 
 -- a count that rose since a later moment rose since an earlier one
-rose_since : (a b c : ℕ) → a ≤ b → Rose b c → Rose a c
+pub rose_since : (a b c : ℕ) → a ≤ b → Rose b c → Rose a c
 rose_since a b c h r = omega (arith, h, r)
 
 -- ---- texts
@@ -45,7 +46,7 @@ names_after-lists (Some told) names more = ap Some (append_assoc told names more
 names_after : (old mid new : View) (names more : List (List ℕ)) → AddsNames old mid names → AddsNames mid new more → AddsNames old new (names ++ more)
 names_after old mid new names more a b = b ∙ ap (option_map (λ told. told ++ more)) a ∙ names_after-lists old.fetched names more
 
-names_kept : (old mid new : View) (names : List (List ℕ)) → AddsNames old mid names → new.fetched ≡ mid.fetched → AddsNames old new names
+pub names_kept : (old mid new : View) (names : List (List ℕ)) → AddsNames old mid names → new.fetched ≡ mid.fetched → AddsNames old new names
 names_kept old mid new names a e = e ∙ a
 
 -- ---- steps
@@ -125,52 +126,76 @@ pub refused_by : (input : Input) (file : Option (List ℕ)) (IsWhy : List ℕ �
 refused_by input file IsWhy names old mid new (Ok m) text r f s w why is tells = stops_refused input file IsWhy names old mid new text r f s w why (subst (λ (t : List ℕ). Tells (refused input) t mid new r) is tells)
 refused_by input file IsWhy names old mid new (Err e) text r f s w why is lacks = stops_lacking input file IsWhy names old mid new r f s w lacks
 
+-- the same, where what is known of the message is that it tells the reason
+pub refused_for : (input : Input) (file : Option (List ℕ)) (IsWhy : List ℕ → Type 0) (names : List (List ℕ)) (old mid new : View) (message : Result (Vec ℕ Global) AllocError) (r : Status) → Fetches names old mid → Stays old mid → OnlyWarns mid new → IfOk message (λ m. IsWhy m.items) → MatchResult message (λ m. Tells (refused input) m.items mid new r) (λ _. Lacks mid new r) → Stops input file IsWhy names old new r
+refused_for input file IsWhy names old mid new (Ok m) r f s w why tells = stops_refused input file IsWhy names old mid new m.items r f s w why tells
+refused_for input file IsWhy names old mid new (Err e) r f s w why lacks = stops_lacking input file IsWhy names old mid new r f s w lacks
+
 -- ---- changes
 
 pub named_changes : (files : Option Files) (name : Option (List ℕ)) (n : List ℕ) (m : IntegerModel) (old new : View) (r : Status) → name ≡ Some n → Stops Changes (Some n) (IsChangesRefusal files (Some n) m) (n ∷ []) old new r → Stops Changes name (IsChangesRefusal files name m) (names_of name) old new r
 named_changes files name n m old new r e s = subst (λ (o : Option (List ℕ)). Stops Changes o (IsChangesRefusal files o m) (names_of o) old new r) (sym e) s
 
 -- the changes of a command stopped it, behind a model that was read
-pub stops_at_changes : (inputs : Inputs) (m : IntegerModel) (old mid new : View) (r : Status) → HasModel old.files inputs.model m → Fetches (inputs.model ∷ []) old mid → Stays old mid → Stops Changes inputs.changes (IsChangesRefusal mid.files inputs.changes m) (names_of inputs.changes) mid new r → StopsAtInput inputs old new r
+pub stops_at_changes : (inputs : Inputs) (m : IntegerModel) (old mid new : View) (r : Status) → HasModel old.files inputs.model m → Fetches (inputs.model ∷ []) old mid → Stays old mid → Stops Changes inputs.changes (IsChangesRefusal mid.files inputs.changes m) (names_of inputs.changes) mid new r → StopsAtInput inputs None old new r
 stops_at_changes inputs m old mid new r has f s stop =
-    (Changes, stops_more Changes inputs.changes (IsChangesRefusal mid.files inputs.changes m) (IsRefusal old.files inputs Changes) (names_to inputs Changes) old new r (λ message why. (m, has, subst (λ (files : Option Files). IsChangesRefusal files inputs.changes m message) s.files why)) (stops_after Changes inputs.changes (IsChangesRefusal mid.files inputs.changes m) (inputs.model ∷ []) (names_of inputs.changes) old mid new r f s stop))
+    (Changes, stops_more Changes inputs.changes (IsChangesRefusal mid.files inputs.changes m) (IsRefusal old.files inputs None Changes) (names_to inputs None Changes) old new r (λ message why. (m, has, subst (λ (files : Option Files). IsChangesRefusal files inputs.changes m message) s.files why)) (stops_after Changes inputs.changes (IsChangesRefusal mid.files inputs.changes m) (inputs.model ∷ []) (names_of inputs.changes) old mid new r f s stop))
 
 -- the problem of a model and changes that were read
-pub posed : (inputs : Inputs) (m : IntegerModel) (scenarios : List Change) (p : Scenarios) (old mid new : View) → HasModel old.files inputs.model m → Fetches (inputs.model ∷ []) old mid → Stays old mid → HasChanges mid.files inputs.changes m scenarios → Fetches (names_of inputs.changes) mid new → p ≡ record { model = m; changes = scenarios } → HasProblem old.files inputs p × Fetches (names_to inputs Changes) old new
+pub posed : (inputs : Inputs) (m : IntegerModel) (scenarios : List Change) (p : Scenarios) (old mid new : View) → HasModel old.files inputs.model m → Fetches (inputs.model ∷ []) old mid → Stays old mid → HasChanges mid.files inputs.changes m scenarios → Fetches (names_of inputs.changes) mid new → p ≡ record { model = m; changes = scenarios } → HasProblem old.files inputs p × Fetches (names_to inputs None Changes) old new
 posed inputs m scenarios p old mid new has f s changes g is =
     let own : HasChanges old.files inputs.changes m scenarios = subst (λ (files : Option Files). HasChanges files inputs.changes m scenarios) s.files changes in
     (subst (λ (q : Scenarios). HasProblem old.files inputs q) (sym is) (record { model = has; changes = own }), fetches_after (inputs.model ∷ []) (names_of inputs.changes) old mid new f g)
 
 -- memory was wanting once both texts were read
-pub lacks_problem : (inputs : Inputs) (old mid next new : View) (r : Status) → Fetches (inputs.model ∷ []) old mid → Fetches (names_of inputs.changes) mid next → Stays old mid → Stays mid next → OnlyWarns next new → Lacks next new r → StopsAtInput inputs old new r
+pub lacks_problem : (inputs : Inputs) (old mid next new : View) (r : Status) → Fetches (inputs.model ∷ []) old mid → Fetches (names_of inputs.changes) mid next → Stays old mid → Stays mid next → OnlyWarns next new → Lacks next new r → StopsAtInput inputs None old new r
 lacks_problem inputs old mid next new r f g s t w l =
-    (Changes, stops_lacking Changes inputs.changes (IsRefusal old.files inputs Changes) (names_to inputs Changes) old next new r (fetches_after (inputs.model ∷ []) (names_of inputs.changes) old mid next f g) (stays_after old mid next s t) w l)
+    (Changes, stops_lacking Changes inputs.changes (IsRefusal old.files inputs None Changes) (names_to inputs None Changes) old next new r (fetches_after (inputs.model ∷ []) (names_of inputs.changes) old mid next f g) (stays_after old mid next s t) w l)
 
 -- what an error of this status means
 pub err_as : {T : Type 0} (r : Result T Status) (s : Status) (P : Status → Type 0) → IsErrAnd r (λ t. t ≡ s) → P s → IfErr r P
 err_as (Ok t) s P e p = tt
 err_as (Err t) s P e p = subst P (sym e) p
 
--- the run of the command that the words are
-pub runs_solve : (words : List (List ℕ)) (inputs : Inputs) (old new : View) (r : Status) → IsSolve words inputs → Solves inputs old new r → new.files ≡ old.files → Runs words old new r
-runs_solve words inputs old new r is s files = record {
-  solve = λ others t. subst (λ (i : Inputs). Solves i old new r) (same_inputs words inputs others is t) s;
-  no_command = λ none. absurd (none inputs is);
-  files = files;
-}
+-- ---- a log
 
--- a report behind names that were asked for before
-reports_since : (p : Scenarios) (names : List (List ℕ)) (old mid new : View) (r : Status) → Fetches names old mid → Stays old mid → Reports p mid new r → Reports p old new r
-reports_since p names old mid new status.Done f s (text, is, printed, warned) = (text, is, adds_since old.printed mid.printed new.printed text s.printed printed, warned ∙ f.warned)
-reports_since p names old mid new status.Limit f s (text, is, printed, warned) = (text, is, adds_since old.printed mid.printed new.printed text s.printed printed, warned ∙ f.warned)
-reports_since p names old mid new status.WriteFault f s (rose, (text, limited, is, printed, warned)) = (rose_since old.write_faults mid.write_faults new.write_faults s.write_faults rose, (text, limited, is, front_since old.printed mid.printed new.printed text s.printed printed, tries_since unwritable old mid new f.warned s.write_faults warned))
-reports_since p names old mid new status.Memory f s (printed, warned) = (printed ∙ s.printed, tries_since out_of_memory old mid new f.warned s.write_faults warned)
-reports_since p names old mid new status.Usage f s e = absurd e
-reports_since p names old mid new status.ModelRefused f s e = absurd e
-reports_since p names old mid new status.ChangesRefused f s e = absurd e
-reports_since p names old mid new status.ReadFault f s e = absurd e
+not_missing : (file : Option (List ℕ)) → file ≡ None → IsSome file → ⊥
+not_missing None e h = absurd (cc)
+not_missing (Some name) e h = absurd (cc)
 
--- a problem that was read is reported on
-pub solved_by : (inputs : Inputs) (p : Scenarios) (old mid new : View) (r : Status) → HasProblem old.files inputs p → Fetches (names_to inputs Changes) old mid → Stays old mid → Reports p mid new r → new.fetched ≡ mid.fetched → Solves inputs old new r
-solved_by inputs p old mid new r has f s told same =
-    inr (p, has, names_kept old mid new (names_to inputs Changes) f.asked same, reports_since p (names_to inputs Changes) old mid new r f s told)
+-- a command that reads a log stops before that as one that reads none
+pub stops_before : (inputs : Inputs) (log : List ℕ) (old new : View) (r : Status) → StopsAtInput inputs None old new r → StopsAtInput inputs (Some log) old new r
+stops_before inputs log old new r (Model, stop) = (Model, stop)
+stops_before inputs log old new r (Changes, stop) = (Changes, stop)
+stops_before inputs log old new r (Log, inl (asked, inl (message, (p, has, why), tells))) = absurd why
+stops_before inputs log old new r (Log, inl (asked, inr misses)) = absurd (not_missing (name_of inputs None Log) refl misses.named)
+stops_before inputs log old new r (Log, inr (lacks, (n, asked))) =
+    let all : (inputs.model ∷ names_of inputs.changes) ++ [] ≡ inputs.model ∷ names_of inputs.changes = append-nil (inputs.model ∷ names_of inputs.changes) in
+    (Changes, inr (lacks, (n, subst (λ (names : List (List ℕ)). AddsNames old new (take n names)) all asked)))
+
+-- the log stopped a command, behind the problem that was read
+pub stops_at_log : (inputs : Inputs) (p : Scenarios) (log : List ℕ) (old mid new : View) (r : Status) → HasProblem old.files inputs p → Fetches (names_to inputs None Changes) old mid → Stays old mid → Stops Log (Some log) (IsLogRefusal mid.files (Some log) p) (log ∷ []) mid new r → StopsAtInput inputs (Some log) old new r
+stops_at_log inputs p log old mid new r has f s stop =
+    (Log, stops_more Log (Some log) (IsLogRefusal mid.files (Some log) p) (IsRefusal old.files inputs (Some log) Log) (names_to inputs (Some log) Log) old new r (λ message why. (p, has, subst (λ (files : Option Files). IsLogRefusal files (Some log) p message) s.files why)) (stops_after Log (Some log) (IsLogRefusal mid.files (Some log) p) (inputs.model ∷ names_of inputs.changes) (log ∷ []) old mid new r f s stop))
+
+-- ---- what is written and printed
+
+pub lacks_since : (old mid new : View) (r : Status) → mid.warned ≡ old.warned → old.write_faults ≤ mid.write_faults → Lacks mid new r → Lacks old new r
+lacks_since old mid new r w f l = record { status = l.status; warned = tries_since out_of_memory old mid new w f l.warned }
+
+pub prints_since : (s : Status) (text : List ℕ) (old mid new : View) (r : Status) → mid.printed ≡ old.printed → mid.warned ≡ old.warned → old.write_faults ≤ mid.write_faults → Prints s text mid new r → Prints s text old new r
+prints_since s text old mid new r p w f (inl (is, all, warned)) = inl (is, adds_since old.printed mid.printed new.printed text p all, warned ∙ w)
+prints_since s text old mid new r p w f (inr (inl (is, rose, front, warned))) = inr (inl (is, rose_since old.write_faults mid.write_faults new.write_faults f rose, front_since old.printed mid.printed new.printed text p front, tries_since unwritable old mid new w f warned))
+prints_since s text old mid new r p w f (inr (inr (lacks, printed))) = inr (inr (lacks_since old mid new r w f lacks, printed ∙ p))
+
+pub prints_as : (s t : Status) (x y : List ℕ) (old new : View) (r : Status) → s ≡ t → x ≡ y → Prints s x old new r → Prints t y old new r
+prints_as s t x y old new r e d h = subst (λ (u : Status). Prints u y old new r) e (subst (λ (z : List ℕ). Prints s z old new r) d h)
+
+pub writes_since : (file : Option (List ℕ)) (text : List ℕ) (old mid new : View) → mid.files ≡ old.files → Writes file text mid new → Writes file text old new
+writes_since None text old mid new e h = h ∙ e
+writes_since (Some name) text old mid new e h = subst (λ (files : Option Files). new.files ≡ option_map (λ m. map.insert m name text) files) e h
+
+pub front_written_since : (file : Option (List ℕ)) (text : List ℕ) (old mid new : View) → mid.files ≡ old.files → WritesFront file text mid new → WritesFront file text old new
+front_written_since None text old mid new e h = absurd h
+front_written_since (Some name) text old mid new e (inl same) = inl (same ∙ e)
+front_written_since (Some name) text old mid new e (inr (n, h)) = inr (n, subst (λ (files : Option Files). new.files ≡ option_map (λ m. map.insert m name (take n text)) files) e h)

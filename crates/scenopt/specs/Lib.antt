@@ -1,3 +1,6 @@
-pub mod Words
 pub mod Messages
+pub mod Files
+pub mod Endings
+pub mod Answered
 pub mod Runs
+pub mod Complete

@@ -1,25 +1,42 @@
 // The texts that a command reads, and what is said of those that can't be used.
 ghost use Rattle.std.specs.Prelude.{◌≡◌};
+ghost use Rattle.scenopt.specs.Endings as endings;
+ghost use Rattle.scenopt.specs.Files as files;
 ghost use Rattle.scenopt.specs.Messages as spec;
-ghost use Rattle.scenopt.specs.Runs as runs;
 
-use crate::run::Status;
+use crate::status::Status;
+use mps_reader::MAX_BYTES;
+
+// The most bytes of a log's file.
+const MAX_LOG_BYTES: usize = 1_073_741_824;
 
 /// A text that a command reads from a file.
 #[derive(Clone, Copy, Debug, PartialEq, Eq)]
 pub(crate) enum Input {
     Model,
     Changes,
+    Log,
 }
 
 impl Input {
+    /// The most bytes that the file may have.
+    pub(crate) fn limit(self) -> usize
+        ensures { result ≡ files.limit self }
+    {
+        match self {
+            Input::Model | Input::Changes => MAX_BYTES,
+            Input::Log => MAX_LOG_BYTES,
+        }
+    }
+
     /// The status where the text is refused.
     pub(crate) fn refused(self) -> Status
-        ensures { result ≡ runs.refused self }
+        ensures { result ≡ endings.refused self }
     {
         match self {
             Input::Model => Status::ModelRefused,
             Input::Changes => Status::ChangesRefused,
+            Input::Log => Status::LogRefused,
         }
     }
 
@@ -30,6 +47,7 @@ impl Input {
         match self {
             Input::Model => b"cannot read model\n",
             Input::Changes => b"cannot read changes\n",
+            Input::Log => b"cannot read log\n",
         }
     }
 
@@ -40,6 +58,7 @@ impl Input {
         match self {
             Input::Model => b"model: too long\n",
             Input::Changes => b"changes: too long\n",
+            Input::Log => b"log: too long\n",
         }
     }
 }

@@ -6,29 +6,31 @@ mod compared;
 mod host_desk;
 mod input;
 mod message;
+mod printing;
+mod reading;
 mod run;
 mod solving;
+mod status;
+mod telling;
 #[cfg(test)]
 mod tests;
-mod words;
 
 use crate::host_desk::HostDesk;
-use crate::run::{Status, quiet_main};
+use crate::run::scen_main;
+use crate::status::Status;
 use std::process::ExitCode;
 use std::{env, io};
+use worker_gate::OpenGate;
 
 fn main(rt: HostRuntime) -> ExitCode {
-    ExitCode::from(run_arguments(&rt).code())
-}
-
-// Runs the command of the arguments. Arguments that are no text are no command.
-fn run_arguments(rt: &HostRuntime) -> Status {
-    let mut desk = HostDesk::new(rt);
-    match words_of(rt) {
-        Ok(words) => quiet_main(rt.alloc(), &words, &mut desk),
+    let mut desk = HostDesk::new(&rt);
+    // Arguments that are no text are no command.
+    let status = match words_of(&rt) {
+        Ok(words) => scen_main(&rt, rt.alloc(), &words, &mut desk, &OpenGate),
         Err(error) if error.kind() == io::ErrorKind::OutOfMemory => Status::Memory,
-        Err(_) => quiet_main(rt.alloc(), &[], &mut desk),
-    }
+        Err(_) => scen_main(&rt, rt.alloc(), &[], &mut desk, &OpenGate),
+    };
+    ExitCode::from(status.code())
 }
 
 // The arguments behind the first one, which is the program's own name.

@@ -1,12 +1,14 @@
 // What is said of a text that is refused.
-ghost use Rattle.std.specs.Prelude.{◌≡◌, IfOk, codes};
-ghost use Rattle.scenopt.specs.Messages.{line_text, model_line, changes_line};
+ghost use Rattle.std.specs.Prelude.{◌≡◌, ◌++◌, Some, IfOk, codes, decimal};
+ghost use Rattle.scenopt.specs.Messages.{line_text, model_line, changes_line, log_line, check_text};
 ghost use Rattle.scenopt.specs.Messages as spec;
 
 use changes_reader::ChangesKind;
 use mps_reader::MpsKind;
 use num_text::write_number;
 use std::alloc::{AllocError, Global};
+use tree_check::CheckError;
+use tree_log::LogKind;
 
 // The name of a kind.
 fn model_kind(kind: MpsKind) -> &'static [u8]
@@ -51,6 +53,16 @@ fn changes_kind(kind: ChangesKind) -> &'static [u8]
     }
 }
 
+// The name of a kind.
+fn log_kind(kind: LogKind) -> &'static [u8]
+    ensures { result.now ≡ spec.log_kind kind }
+{
+    match kind {
+        LogKind::Spelling => b"Spelling",
+        LogKind::NoEnd => b"NoEnd",
+    }
+}
+
 // A text is refused at a line.
 #[tactic(auto, unfolding(crate::specs::Messages::line_text))]
 fn line_message(alloc: Global, text: &[u8], line: u32, kind: &[u8]) -> Result<Vec<u8>, AllocError>
@@ -81,4 +93,54 @@ pub(crate) fn changes_message(
     ensures { IfOk result (λ message. message.items ≡ changes_line line kind) }
 {
     line_message(alloc, b"changes", line, changes_kind(kind))
+}
+
+/// The message that a log's text is refused at a line.
+pub(crate) fn log_message(alloc: Global, line: u32, kind: LogKind) -> Result<Vec<u8>, AllocError>
+    ensures { IfOk result (λ message. message.items ≡ log_line line kind) }
+{
+    line_message(alloc, b"log", line, log_kind(kind))
+}
+
+// A log is refused at a place, which a number follows.
+fn place_message(alloc: Global, place: &[u8], number: u32) -> Result<Vec<u8>, AllocError>
+    ensures { IfOk result (λ message. message.items ≡ codes "log " ++ place.now ++ codes " " ++ decimal number) }
+{
+    let mut message = Vec::from_slice(alloc, b"log ")?;
+    message.extend_from_slice(place)?;
+    message.extend_from_slice(b" ")?;
+    write_number(&mut message, i64::from(number))?;
+    Ok(message)
+}
+
+/// The message that a log doesn't show its claims. Want of memory has none.
+#[tactic(auto, unfolding(crate::specs::Messages::check_text))]
+pub(crate) fn check_message(alloc: Global, error: CheckError) -> Result<Vec<u8>, AllocError>
+    ensures { IfOk result (λ message. check_text error ≡ Some message.items) }
+{
+    match error {
+        CheckError::Shape { node } => {
+            let mut message = place_message(alloc, b"node", node)?;
+            message.extend_from_slice(b": Shape\n")?;
+            Ok(message)
+        }
+        CheckError::Level { node, scenario } => {
+            let mut message = place_message(alloc, b"node", node)?;
+            message.extend_from_slice(b" scenario ")?;
+            write_number(&mut message, i64::from(scenario))?;
+            message.extend_from_slice(b": Level\n")?;
+            Ok(message)
+        }
+        CheckError::PointWrong { scenario } => {
+            let mut message = place_message(alloc, b"scenario", scenario)?;
+            message.extend_from_slice(b": PointWrong\n")?;
+            Ok(message)
+        }
+        CheckError::ClaimWrong { scenario } => {
+            let mut message = place_message(alloc, b"scenario", scenario)?;
+            message.extend_from_slice(b": ClaimWrong\n")?;
+            Ok(message)
+        }
+        CheckError::Memory => Err(AllocError),
+    }
 }

@@ -1,233 +1,133 @@
-// The run of a command over a desk.
-ghost use Rattle.std.specs.Prelude.{◌≡◌, ◌∷◌, [], map, string_bytes, option_map, Some, IfOk, IfErr, MatchResult};
-ghost use Rattle.scenario_changes.specs.Changes.{Fits};
-ghost use Rattle.scenopt.specs.Messages.{too_long};
-ghost use Rattle.scenopt.specs.Runs.{Runs, Solves, StopsAtInput, Reports, Stops, HasBytes, HasModel, HasChanges, HasProblem, IsAnswered, most_nodes, IsTooLong, IsModelRefusal, IsChangesRefusal, names_of, names_to, Stays, Fetches, Tells, Lacks, Tries, OnlyWarns, status_code};
-ghost use Rattle.scenopt.specs.declared.input.Input.TheVariants as input;
-ghost use Rattle.scenopt.specs.Runs as spec;
+// The run of a command over a desk, by one worker or by many.
+ghost use Rattle.std.specs.Prelude.{◌≡◌, ◌<◌, ◌≤◌, None, Some, map, string_bytes, option_map};
+ghost use Rattle.scenopt.specs.Runs.{Checks, Generates, Runs, Solves};
+ghost use Rattle.scenopt.specs.Complete.{Completes, Proves};
 
-use crate::input::Input;
-use crate::message::{changes_message, model_message};
-use crate::solving::{MAX_NODES, has_limit, solved};
-use crate::words::{Command, read_words};
-use changes_reader::{ChangesError, read_changes};
-use desk::{Desk, DeskError, FetchError};
-use int_model::Model;
-use mps_reader::{MAX_BYTES, MpsError, read_model};
-use scen_report::write_report;
-use scenario_changes::{Changes, Problem};
-use std::alloc::{AllocError, Global};
-
-/// How a run ended.
-#[derive(Clone, Copy, Debug, PartialEq, Eq)]
-pub enum Status {
-    /// All was done and printed.
-    Done,
-    /// The words are no command.
-    Usage,
-    /// The model's file is too long, or its text has no model.
-    ModelRefused,
-    /// The changes' file is too long, or its text has no changes of the model.
-    ChangesRefused,
-    /// A file could not be read.
-    ReadFault,
-    /// What was to be told could not be written.
-    WriteFault,
-    /// No memory was left.
-    Memory,
-    /// All was done and printed, but some answers are limits: bounds, and the best points that were found.
-    Limit,
-}
-
-impl Status {
-    /// The exit status of the process.
-    pub fn code(&self) -> u8
-        ensures { result ≡ status_code self.now }
-    {
-        match self {
-            Status::Done => 0,
-            Status::Usage => 1,
-            Status::ModelRefused => 2,
-            Status::ChangesRefused => 3,
-            Status::ReadFault => 4,
-            Status::WriteFault => 5,
-            Status::Memory => 6,
-            Status::Limit => 7,
-        }
-    }
-}
+use crate::printing::{print, report, status_of};
+use crate::reading::{problem_in, proof_in};
+use crate::solving::{MAX_NODES, solved, solved_together};
+use crate::status::Status;
+use crate::telling::{lacking, told};
+use command_line::{Command, read_words};
+use desk::Desk;
+use made_problems::make_problem;
+use scen_report::write_summary;
+use std::alloc::Global;
+use std::sync::Wait;
+use std::thread::Threads;
+use worker_gate::Gate;
 
 const USAGE: &[u8] =
     b"usage: scenopt solve MODEL CHANGES [--workers N] [--nodes K] [--log FILE]\n       scenopt check MODEL CHANGES LOG\n       scenopt gen SEED COLUMNS ROWS SCENARIOS\n";
 
-// Warns a message that belongs to a status.
-fn told<D: Desk>(desk: &mut D, message: &[u8], status: Status) -> Status
-    ensures tells { Tells status message.now (D.view desk.old) (D.view desk.new) result }
-    ensures others { OnlyWarns (D.view desk.old) (D.view desk.new) }
-{
-    match desk.warn(message) {
-        Ok(()) => status,
-        Err(DeskError::Failed) => Status::WriteFault,
-        Err(DeskError::Memory) => Status::Memory,
-    }
-}
-
-// Tries to warn a message, and leaves the status as it is.
-fn tried<D: Desk>(desk: &mut D, message: &[u8], status: Status) -> Status
-    ensures status { result ≡ status }
-    ensures warned { Tries message.now (D.view desk.old) (D.view desk.new) }
-    ensures others { OnlyWarns (D.view desk.old) (D.view desk.new) }
-{
-    let _ = desk.warn(message);
-    status
-}
-
-// Says that memory was wanting.
-fn lacking<D: Desk>(desk: &mut D) -> Status
-    ensures lacks { Lacks (D.view desk.old) (D.view desk.new) result }
-    ensures others { OnlyWarns (D.view desk.old) (D.view desk.new) }
-{
-    tried(desk, b"out of memory\n", Status::Memory)
-}
-
-// The bytes of a command's file, or the status after it was said what is wrong.
-fn fetched<D: Desk>(
+// Solves each scenario of the problem in the command's files, in a tree of at most so many nodes.
+fn solve<D: Desk>(
     alloc: Global,
-    name: &str,
-    input: Input,
+    model: &str,
+    changes: Option<&str>,
+    nodes: u32,
+    log: Option<&str>,
     desk: &mut D,
-) -> Result<Vec<u8>, Status>
-    ensures ok { IfOk result (λ bytes. HasBytes (D.view desk.old).files name.now bytes.items × Fetches (name.now ∷ []) (D.view desk.old) (D.view desk.new)) }
-    ensures err { IfErr result (Stops input (Some name.now) (λ message. IsTooLong (D.view desk.old).files name.now × (message ≡ too_long input)) (name.now ∷ []) (D.view desk.old) (D.view desk.new)) }
-    ensures stays { Stays (D.view desk.old) (D.view desk.new) }
+) -> Status
+    requires some { 0 < nodes }
+    requires few { nodes ≤ 100001 }
+    ensures { Solves (record { model = model.now; changes = option_map (λ c. c.now) changes.entry }) nodes (option_map (λ l. l.now) log.entry) (D.view desk.old) (D.view desk.new) result }
 {
-    match desk.fetch(alloc, name, MAX_BYTES) {
-        Ok(bytes) => Ok(bytes),
-        Err(FetchError::TooLong) => Err(told(desk, input.too_long(), input.refused())),
-        Err(FetchError::Failed) => Err(tried(desk, input.unreadable(), Status::ReadFault)),
-        Err(FetchError::Memory) => Err(lacking(desk)),
-    }
-}
-
-// Tells the message of a text that is refused, where there was memory for it.
-fn refuse<D: Desk>(input: Input, message: Result<Vec<u8>, AllocError>, desk: &mut D) -> Status
-    ensures tells { MatchResult message (λ m. Tells (spec.refused input) m.items (D.view desk.old) (D.view desk.new) result) (λ _. Lacks (D.view desk.old) (D.view desk.new) result) }
-    ensures others { OnlyWarns (D.view desk.old) (D.view desk.new) }
-{
-    match message {
-        Ok(message) => told(desk, &message, input.refused()),
+    let problem = match problem_in(alloc, model, changes, desk) {
+        Ok(problem) => problem,
+        Err(status) => return status,
+    };
+    match solved(alloc, &problem, nodes) {
+        Ok(ended) => report(alloc, &problem, &ended, log, desk),
         Err(_) => lacking(desk),
     }
 }
 
-// The model of a file.
-fn model_in<D: Desk>(alloc: Global, name: &str, desk: &mut D) -> Result<Model, Status>
-    ensures ok { IfOk result (λ m. HasModel (D.view desk.old).files name.now m × Fetches (name.now ∷ []) (D.view desk.old) (D.view desk.new)) }
-    ensures err { IfErr result (Stops input.Model (Some name.now) (IsModelRefusal (D.view desk.old).files name.now) (name.now ∷ []) (D.view desk.old) (D.view desk.new)) }
-    ensures stays { Stays (D.view desk.old) (D.view desk.new) }
-{
-    let bytes = fetched(alloc, name, Input::Model, desk)?;
-    match read_model(alloc, &bytes) {
-        Ok(model) => Ok(model),
-        Err(MpsError::Line { line, kind }) => {
-            Err(refuse(Input::Model, model_message(alloc, line, kind), desk))
-        }
-        Err(MpsError::Memory) => Err(lacking(desk)),
-    }
+// How many workers search, and what they are given.
+#[derive(Drop)]
+struct Crew<'g, G, R> {
+    rt: &'g R,
+    gate: &'g G,
+    workers: u32,
 }
 
-// The changes to a model in a file, or none without a file.
-fn changes_in<D: Desk>(
-    alloc: Global,
-    name: Option<&str>,
-    model: &Model,
-    desk: &mut D,
-) -> Result<Changes, Status>
-    ensures ok { IfOk result (λ c. HasChanges (D.view desk.old).files (option_map (λ n. n.now) name.entry) model.now c.scenarios × Fits c model.now × Fetches (names_of (option_map (λ n. n.now) name.entry)) (D.view desk.old) (D.view desk.new)) }
-    ensures err { IfErr result (Stops input.Changes (option_map (λ n. n.now) name.entry) (IsChangesRefusal (D.view desk.old).files (option_map (λ n. n.now) name.entry) model.now) (names_of (option_map (λ n. n.now) name.entry)) (D.view desk.old) (D.view desk.new)) }
-    ensures stays { Stays (D.view desk.old) (D.view desk.new) }
-{
-    let Some(name) = name else {
-        return match Changes::new(alloc, model) {
-            Ok(changes) => Ok(changes),
-            Err(_) => Err(lacking(desk)),
-        };
-    };
-    let bytes = fetched(alloc, name, Input::Changes, desk)?;
-    match read_changes(alloc, model, &bytes) {
-        Ok(changes) => Ok(changes),
-        Err(ChangesError::Line { line, kind }) => {
-            Err(refuse(Input::Changes, changes_message(alloc, line, kind), desk))
-        }
-        Err(ChangesError::Memory) => Err(lacking(desk)),
-    }
-}
-
-// The problem of the command's files.
-fn problem_in<D: Desk>(
+// The same by a crew. It may wait, and need not return.
+fn solve_together<D: Desk, G: Gate + Sync, R: Threads + Wait + Sync>(
+    crew: &Crew<'_, G, R>,
     alloc: Global,
     model: &str,
     changes: Option<&str>,
+    nodes: u32,
+    log: Option<&str>,
     desk: &mut D,
-) -> Result<Problem, Status>
-    ensures ok { IfOk result (λ p. HasProblem (D.view desk.old).files (record { model = model.now; changes = option_map (λ c. c.now) changes.entry }) p × Fetches (names_to (record { model = model.now; changes = option_map (λ c. c.now) changes.entry }) input.Changes) (D.view desk.old) (D.view desk.new)) }
-    ensures err { IfErr result (λ s. StopsAtInput (record { model = model.now; changes = option_map (λ c. c.now) changes.entry }) (D.view desk.old) (D.view desk.new) s) }
-    ensures stays { Stays (D.view desk.old) (D.view desk.new) }
+) -> Status
+    requires some_workers { 0 < crew.now.workers }
+    requires few_workers { crew.now.workers ≤ 64 }
+    requires some { 0 < nodes }
+    requires few { nodes ≤ 100001 }
+    ensures { Solves (record { model = model.now; changes = option_map (λ c. c.now) changes.entry }) nodes (option_map (λ l. l.now) log.entry) (D.view desk.old) (D.view desk.new) result }
 {
-    let model = model_in(alloc, model, desk)?;
-    let changes = changes_in(alloc, changes, &model, desk)?;
-    match Problem::new(alloc, model, changes) {
-        Ok(problem) => Ok(problem),
-        Err(_) => Err(lacking(desk)),
-    }
-}
-
-// A report, and whether some answer in it is a limit.
-#[derive(Drop)]
-struct Report {
-    text: Vec<u8>,
-    is_limited: bool,
-}
-
-// The report of the answers to all scenarios.
-fn report_of(alloc: Global, problem: &Problem) -> Result<Report, AllocError>
-    ensures { IfOk result (λ r. IsAnswered problem.now most_nodes r.text.items r.is_limited) }
-{
-    let answers = solved(alloc, problem, MAX_NODES)?.answers;
-    let text = write_report(alloc, problem, &answers)?;
-    Ok(Report {
-        text,
-        is_limited: has_limit(&answers),
-    })
-}
-
-// Prints the report of a problem.
-#[tactic(auto, using(crate::proofs::RunLemmas::tries_since))]
-fn print_report<D: Desk>(alloc: Global, problem: &Problem, desk: &mut D) -> Status
-    ensures reports { Reports problem.now (D.view desk.old) (D.view desk.new) result }
-    ensures files { (D.view desk.new).files ≡ (D.view desk.old).files }
-    ensures fetched { (D.view desk.new).fetched ≡ (D.view desk.old).fetched }
-{
-    let Ok(report) = report_of(alloc, problem) else {
-        return lacking(desk);
+    let problem = match problem_in(alloc, model, changes, desk) {
+        Ok(problem) => problem,
+        Err(status) => return status,
     };
-    match desk.print(&report.text) {
-        Ok(()) if report.is_limited => Status::Limit,
-        Ok(()) => Status::Done,
-        Err(DeskError::Failed) => tried(desk, b"cannot write output\n", Status::WriteFault),
-        Err(DeskError::Memory) => lacking(desk),
+    match solved_together(crew.rt, alloc, &problem, crew.workers, nodes, crew.gate) {
+        Ok(ended) => report(alloc, &problem, &ended, log, desk),
+        Err(_) => lacking(desk),
     }
 }
 
-// Solves each scenario of the problem in the command's files.
-fn solve<D: Desk>(alloc: Global, model: &str, changes: Option<&str>, desk: &mut D) -> Status
-    ensures solves { Solves (record { model = model.now; changes = option_map (λ c. c.now) changes.entry }) (D.view desk.old) (D.view desk.new) result }
-    ensures files { (D.view desk.new).files ≡ (D.view desk.old).files }
+// Checks a log of the problem in the command's files.
+fn check<D: Desk>(
+    alloc: Global,
+    model: &str,
+    changes: Option<&str>,
+    log: &str,
+    desk: &mut D,
+) -> Status
+    ensures { Checks (record { model = model.now; changes = option_map (λ c. c.now) changes.entry }) log.now (D.view desk.old) (D.view desk.new) result }
 {
-    match problem_in(alloc, model, changes, desk) {
-        Ok(problem) => print_report(alloc, &problem, desk),
+    let problem = match problem_in(alloc, model, changes, desk) {
+        Ok(problem) => problem,
+        Err(status) => return status,
+    };
+    match proof_in(alloc, log, &problem, desk) {
+        Ok(()) => print(b"accepted\n", Status::Done, desk),
         Err(status) => status,
     }
+}
+
+// Solves the problem whose texts are made from a seed, and prints the summary of the answers.
+fn generate<D: Desk>(
+    alloc: Global,
+    seed: u64,
+    columns: u32,
+    rows: u32,
+    scenarios: u32,
+    desk: &mut D,
+) -> Status
+    requires some { 1 ≤ columns }
+    requires columns { columns ≤ 1000 }
+    requires rows { rows ≤ 1000 }
+    requires scenarios { scenarios ≤ 64 }
+    ensures { Generates seed columns rows scenarios (D.view desk.old) (D.view desk.new) result }
+{
+    let Ok(problem) = make_problem(alloc, seed, columns, rows, scenarios) else {
+        return lacking(desk);
+    };
+    let Ok(ended) = solved(alloc, &problem, MAX_NODES) else {
+        return lacking(desk);
+    };
+    let numbers = [
+        seed,
+        u64::from(columns),
+        u64::from(rows),
+        u64::from(scenarios),
+    ];
+    let Ok(text) = write_summary(alloc, &problem, &ended.answers, &numbers) else {
+        return lacking(desk);
+    };
+    print(&text, status_of(&ended.answers), desk)
 }
 
 /// Runs the command that the words are, with one worker. It always returns.
@@ -235,10 +135,63 @@ fn solve<D: Desk>(alloc: Global, model: &str, changes: Option<&str>, desk: &mut 
 /// The program's name is not among the words. Over a desk that tells its files, the contract says what each status
 /// means; want of memory is the one answer that may come at any time.
 pub fn quiet_main<D: Desk>(alloc: Global, words: &[String], desk: &mut D) -> Status
-    ensures { Runs (map string_bytes words.now) (D.view desk.old) (D.view desk.new) result }
+    ensures runs { Runs (map string_bytes words.now) (D.view desk.old) (D.view desk.new) result }
+    ensures complete { Completes (map string_bytes words.now) (D.view desk.old) (D.view desk.new) result }
+    ensures proof { Proves (map string_bytes words.now) (D.view desk.old) (D.view desk.new) result }
+{
+    let Ok(command) = read_words(words) else {
+        return told(desk, USAGE, Status::Usage);
+    };
+    match command {
+        Command::Solve {
+            model,
+            changes,
+            workers: _,
+            nodes,
+            log,
+        } => solve(alloc, model, changes, nodes, log, desk),
+        Command::Check {
+            model,
+            changes,
+            log,
+        } => check(alloc, model, changes, log, desk),
+        Command::Gen {
+            seed,
+            columns,
+            rows,
+            scenarios,
+        } => generate(alloc, seed, columns, rows, scenarios, desk),
+    }
+}
+
+/// The same, where a `solve` that asks for two workers or more has them, and passes the gate at their points.
+///
+/// It may wait, as workers wait for one another, and need not return. If it returns, the contract is that of
+/// [`quiet_main`], for every number of workers and every interleaving of their steps.
+pub fn scen_main<D: Desk, G: Gate + Sync, R: Threads + Wait + Sync>(
+    rt: &R,
+    alloc: Global,
+    words: &[String],
+    desk: &mut D,
+    gate: &G,
+) -> Status
+    ensures runs { Runs (map string_bytes words.now) (D.view desk.old) (D.view desk.new) result }
+    ensures complete { Completes (map string_bytes words.now) (D.view desk.old) (D.view desk.new) result }
+    ensures proof { Proves (map string_bytes words.now) (D.view desk.old) (D.view desk.new) result }
 {
     match read_words(words) {
-        Ok(Command::Solve { model, changes }) => solve(alloc, model, changes, desk),
-        Err(_) => told(desk, USAGE, Status::Usage),
+        Ok(
+            Command::Solve {
+                model,
+                changes,
+                workers,
+                nodes,
+                log,
+            },
+        ) if workers >= 2 => {
+            let crew = Crew { rt, gate, workers };
+            solve_together(&crew, alloc, model, changes, nodes, log, desk)
+        }
+        _ => quiet_main(alloc, words, desk),
     }
 }

@@ -1,5 +1,6 @@
 // The worked models, command lines, faults and refusals, run over a desk in memory.
-use crate::run::{Status, quiet_main};
+use crate::run::quiet_main;
+use crate::status::Status;
 use desk::MemoryDesk;
 use std::alloc::{AllocError, Global};
 use std::test::Fail;
@@ -424,6 +425,15 @@ fn tells_of_faults(rt: HostRuntime) -> Result<(), Fail> {
         assert_eq!(rt; desk.printed(), printed.as_bytes(), "at call {call}");
         assert_eq!(rt; desk.warned(), warned.as_bytes(), "at call {call}");
     }
+    // A log that can't be written leaves its front, and nothing is printed.
+    let mut desk = MemoryDesk::new(alloc);
+    desk.add_file("m", m1.as_bytes())?;
+    desk.fail(2, 5)?;
+    let words = words_of(alloc, &["solve", "m", "-", "--log", "l"])?;
+    assert_eq!(rt; quiet_main(alloc, &words, &mut desk), Status::WriteFault);
+    assert_eq!(rt; desk.file("l"), Some(b"scenl".as_slice()));
+    assert_eq!(rt; desk.printed(), b"".as_slice());
+    assert_eq!(rt; desk.warned(), b"cannot write log\n".as_slice());
     // After a warning that failed no other is tried.
     let mut desk = MemoryDesk::new(alloc);
     desk.fail(1, 5)?;
