@@ -8,7 +8,7 @@
 //! The machine is `specs/Machine.antt` of `bb_core`. `bb_core::laws::every_interleaving` says what holds
 //! after each list of events that it allows: no better feasible point is lost, and where no node is open
 //! or held the words are the optima. The tests of a settlement are those of `open_pool`, and [`laws`] says
-//! that a pool is a part of a state, and each of its calls an event.
+//! when a pool is a part of a state, and which events its calls are.
 #![tactic(auto)]
 
 mod caps;
