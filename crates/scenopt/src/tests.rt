@@ -1,9 +1,13 @@
 // The worked models, command lines, faults and refusals, run over a desk in memory.
-use crate::run::quiet_main;
+use crate::run::{quiet_main, scen_main};
 use crate::status::Status;
 use desk::MemoryDesk;
 use std::alloc::{AllocError, Global};
+use std::sync::Wait;
+use std::sync::atomic::{AtomicU64, Ordering};
 use std::test::Fail;
+use std::thread;
+use worker_gate::{Gate, GatePoint};
 
 const M1: [&str; 15] = [
     "NAME m1\n",
@@ -439,5 +443,66 @@ fn tells_of_faults(rt: HostRuntime) -> Result<(), Fail> {
     desk.fail(1, 5)?;
     assert_eq!(rt; quiet_main(alloc, &[], &mut desk), Status::WriteFault);
     assert_eq!(rt; desk.warned(), b"usage".as_slice());
+    Ok(())
+}
+
+// Holds the worker of the second call at Claimed until another worker makes a later one, for at most a
+// million turns.
+#[derive(Drop)]
+struct HoldGate {
+    calls: AtomicU64,
+    held: AtomicU64,
+    later: AtomicU64,
+    released: AtomicU64,
+}
+
+impl Gate for HoldGate {
+    fn at<R: Wait + Sync>(&self, _rt: &R, worker: u32, point: GatePoint) {
+        if point != GatePoint::Claimed {
+            return;
+        }
+        let call = self.calls.fetch_add(1, Ordering::SeqCst);
+        if call == 1 {
+            self.held.store(u64::from(worker) + 1, Ordering::SeqCst);
+            for _ in 0..1_000_000u32 {
+                if self.later.load(Ordering::SeqCst) == 1 {
+                    self.released.store(1, Ordering::SeqCst);
+                    return;
+                }
+                thread::yield_now();
+            }
+        } else if call > 1 && self.held.load(Ordering::SeqCst) != u64::from(worker) + 1 {
+            self.later.store(1, Ordering::SeqCst);
+        }
+    }
+}
+
+#[test]
+fn has_two_workers_at_once(rt: HostRuntime) -> Result<(), Fail> {
+    let alloc = rt.alloc();
+    let mut desk = MemoryDesk::new(alloc);
+    desk.add_file(
+        "m",
+        b"ROWS\n N obj\n E r\nCOLUMNS\n M 'MARKER' 'INTORG'\n x r 2\n y r 2\n z r 2\n M 'MARKER' 'INTEND'\nRHS\n rhs r 3\nENDATA\n",
+    )?;
+    let gate = HoldGate {
+        calls: AtomicU64::new(0),
+        held: AtomicU64::new(0),
+        later: AtomicU64::new(0),
+        released: AtomicU64::new(0),
+    };
+    let words = words_of(
+        alloc,
+        &["solve", "m", "-", "--workers", "2", "--nodes", "15"],
+    )?;
+    assert_eq!(rt;
+        scen_main(&rt, alloc, &words, &mut desk, &gate),
+        Status::Done
+    );
+    assert_eq!(rt; gate.released.load(Ordering::SeqCst), 1);
+    assert_eq!(rt;
+        desk.printed(),
+        b"ImpliedBinary 3\nNumScenarios 0\nScenarioNumber 0\nScenNName -\nStatus infeasible\nScenNObjVal inf\nScenNObjBound inf\n".as_slice()
+    );
     Ok(())
 }
