@@ -72,6 +72,25 @@ pub fn most(terms: &[(u32, i64)], low: &[i32], high: &[i32]) -> i64
     sum
 }
 
+// The least and the greatest sum of a row over the box with these ends, from one pass over the row's terms.
+fn sums(terms: &[(u32, i64)], low: &[i32], high: &[i32]) -> (i64, i64)
+    requires { AreSummed terms.now low.now high.now }
+    ensures least { result.0 ≡ least_sum terms.now (box_of low.now high.now) }
+    ensures most { result.1 ≡ greatest_sum terms.now (box_of low.now high.now) }
+    ensures least_limit { unsigned_abs result.0 ≤ 10 ^ 18 }
+    ensures most_limit { unsigned_abs result.1 ≤ 10 ^ 18 }
+{
+    let mut least = 0;
+    let mut most = 0;
+    for &(column, coefficient) in terms {
+        let column = column as usize;
+        let (first, last) = (low[column], high[column]);
+        least += least_of(coefficient, first, last);
+        most += greatest_of(coefficient, first, last);
+    }
+    (least, most)
+}
+
 // The least and the greatest product of a coefficient with a number of an interval that isn't empty.
 fn both_of(coefficient: i64, low: i32, high: i32) -> (i64, i64)
     requires coefficient { IsEntry coefficient }

@@ -2,30 +2,9 @@
 ghost use Rattle.std.specs.Prelude.{◌≡◌, ◌≤◌, length};
 ghost use Rattle.int_model.specs.Programs.{AreTerms};
 ghost use Rattle.int_model.specs.RowSums.{misses_ends};
-ghost use Rattle.int_model.specs.RowSums as spec;
 
-use crate::{least, most};
+use crate::{least, most, sums};
 use int_model::{Ends, PointBox};
-
-// Whether a sum is above the end, where there is one.
-fn is_above(end: Option<i64>, sum: i64) -> bool
-    ensures { result ≡ spec.is_above end sum }
-{
-    match end {
-        Some(upper) => upper < sum,
-        None => false,
-    }
-}
-
-// Whether a sum is below the end, where there is one.
-fn is_below(end: Option<i64>, sum: i64) -> bool
-    ensures { result ≡ spec.is_below end sum }
-{
-    match end {
-        Some(lower) => sum < lower,
-        None => false,
-    }
-}
 
 /// Whether the sum of a row lies above its upper end, or below its lower end, everywhere in the box. A
 /// row's terms are columns, which rise, and coefficients.
@@ -36,10 +15,13 @@ pub fn misses(terms: &[(u32, i64)], ends: Ends, bounds: &PointBox) -> bool
 {
     let lows = bounds.lows();
     let highs = bounds.highs();
-    let least = least(terms, lows, highs);
-    if is_above(ends.upper, least) {
-        return true;
+    match (ends.lower, ends.upper) {
+        (None, None) => false,
+        (None, Some(upper)) => upper < least(terms, lows, highs),
+        (Some(lower), None) => most(terms, lows, highs) < lower,
+        (Some(lower), Some(upper)) => {
+            let (least, most) = sums(terms, lows, highs);
+            upper < least || most < lower
+        }
     }
-    let most = most(terms, lows, highs);
-    is_below(ends.lower, most)
 }

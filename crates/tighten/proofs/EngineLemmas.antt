@@ -223,7 +223,7 @@ same-left box j left o e =
     let ordered_left : left.low ≤ℤ left.high = subst (λ (i : Interval). i.low ≤ℤ i.high) (sym e) (ordered box j o) in
     with-left box j left (not_less left ordered_left) ∙ ap (λ (b : Box). Some b) (ap (slice_set box j) e ∙ set-get_or box j (record { low = pos 0; high = pos 0 }))
 
-less-left : (box : Box) (j : ℕ) (left : Interval) (low high : ℤ) → left ≡ interval low high → low ≤ℤ high → with_interval box j left ≡ Some (slice_set box j (interval low high))
+pub less-left : (box : Box) (j : ℕ) (left : Interval) (low high : ℤ) → left ≡ interval low high → low ≤ℤ high → with_interval box j left ≡ Some (slice_set box j (interval low high))
 less-left box j left low high e o = rw e (with-left box j (interval low high) (not_less (interval low high) o))
 
 some_same : {a b : Box} → Some a ≡ Some b → a ≡ b
@@ -234,7 +234,7 @@ less-narrows box j left low high h e n o g =
     let same : slice_set box j (interval low high) ≡ box = some_same (sym (less-left box j left low high e o) ∙ g) in
     n (e ∙ sym (interval-set box j (interval low high) h) ∙ ap (λ (b : Box). interval_at b j) same)
 
-empty-left : (box : Box) (j : ℕ) (left : Interval) → left.high <ℤ left.low → with_interval box j left ≡ None
+pub empty-left : (box : Box) (j : ℕ) (left : Interval) → left.high <ℤ left.low → with_interval box j left ≡ None
 empty-left box j left h =
     let less : int_lt left.high left.low ≡ true = grind (arith, ints, h) in rw less refl
 

@@ -9,4 +9,5 @@ pub mod SumLists
 pub mod SpreadLists
 pub mod StepRuns
 pub mod EngineLemmas
+pub mod EndSumLemmas
 pub mod StillLemmas

@@ -1,17 +1,16 @@
 -- What an end leaves of an interval, by the numbers that the code takes.
-use Rattle.std.specs.Prelude.{◌≡◌, ℕ, zero, suc, ◌<◌, ℤ, pos, negsuc, ◌-ℤ◌, neg_ℤ, ◌≤ℤ◌, ◌<ℤ◌, int_lt, false, List, length, slice_index_or, Option, Some, refl}
-use Rattle.std.proofs.Common.{arith, ap, sym, ◌∙◌, subst}
+use Rattle.std.specs.Prelude.{◌≡◌, ℕ, zero, suc, ◌<◌, ℤ, pos, negsuc, ◌≤ℤ◌, ◌<ℤ◌, int_lt, false, List, length, slice_index_or, Some, refl}
+use Rattle.std.proofs.Common.{arith, subst}
 use Rattle.std.proofs.lemmas.Int.{ints, clamps}
 use Rattle.std.specs.Int.{int_div_euclid}
 use Rattle.int_model.specs.Limits.{IsBound}
 use Rattle.int_model.specs.Boxes.{Interval, Box, box_of, interval_at, is_empty, at_most, at_least}
 use Rattle.int_model.specs.Programs.{Terms}
-use Rattle.int_model.specs.RowSums.{coefficient, without, least_sum, greatest_sum}
 use Rattle.int_model.proofs.BoxLaws.{tells-points}
 use Rattle.int_model.proofs.RowSumLaws.{IsIn_at}
 use Rattle.int_model.proofs.SideLemmas.{interval-at}
 use Rattle.activity.specs.Sums.{AreSummed}
-use Rattle.tighten.specs.Replay.{narrowed, by_upper, by_lower}
+use Rattle.tighten.specs.Replay.{narrowed}
 use Rattle.tighten.specs.Steps.{IsLeft}
 
 pub narrowed-above : (a c : ℤ) (i : Interval) → pos 0 <ℤ a → narrowed a c i ≡ at_most i (int_div_euclid c a)
@@ -53,23 +52,6 @@ column-facts terms lows highs j s h e =
       ordered = subst (λ (i : Interval). i.low ≤ℤ i.high) at (ordered_at (box_of lows highs) j e);
       at = at;
     }
-
-pub whole-left : (i : Interval) (l h : ℤ) → i ≡ interval l h → IsBound l → IsBound h → l ≤ℤ h → IsLeft i (Some (l, h))
-whole-left i l h e k m n =
-    let occupied : int_lt h l ≡ false = grind (arith, ints, n) in
-    (sym (ap (λ (v : Interval). v.low) e), sym (ap (λ (v : Interval). v.high) e), k, m, occupied)
-
-pub upper-left : (terms : Terms) (j : ℕ) (box : Box) (l h own others end : ℤ) (r : Option (ℤ × ℤ)) → interval_at box j ≡ interval l h → own ≡ coefficient j terms → others ≡ least_sum (without j terms) box → IsLeft (narrowed own (end -ℤ others) (interval l h)) r → IsLeft (by_upper terms (Some end) j box) r
-upper-left terms j box l h own others end r at e f k =
-    let same : narrowed own (end -ℤ others) (interval l h) ≡ by_upper terms (Some end) j box =
-    ap (λ (i : Interval). narrowed own (end -ℤ others) i) (sym at) ∙ ap (λ (a : ℤ). narrowed a (end -ℤ others) (interval_at box j)) e ∙ ap (λ (z : ℤ). narrowed (coefficient j terms) (end -ℤ z) (interval_at box j)) f in
-    subst (λ (i : Interval). IsLeft i r) same k
-
-pub lower-left : (terms : Terms) (j : ℕ) (box : Box) (l h a own others end : ℤ) (r : Option (ℤ × ℤ)) → interval_at box j ≡ interval l h → a ≡ neg_ℤ own → own ≡ coefficient j terms → others ≡ greatest_sum (without j terms) box → IsLeft (narrowed a (others -ℤ end) (interval l h)) r → IsLeft (by_lower terms (Some end) j box) r
-lower-left terms j box l h a own others end r at turned e f k =
-    let same : narrowed a (others -ℤ end) (interval l h) ≡ by_lower terms (Some end) j box =
-    ap (λ (i : Interval). narrowed a (others -ℤ end) i) (sym at) ∙ ap (λ (z : ℤ). narrowed z (others -ℤ end) (interval_at box j)) (turned ∙ ap neg_ℤ e) ∙ ap (λ (z : ℤ). narrowed (neg_ℤ (coefficient j terms)) (z -ℤ end) (interval_at box j)) f in
-    subst (λ (i : Interval). IsLeft i r) same k
 
 -- the interval cut above at a number of it
 pub cut-above-left : (most l h : ℤ) → IsBound l → IsBound h → l ≤ℤ most → most <ℤ h → IsLeft (at_most (interval l h) most) (Some (l, most))

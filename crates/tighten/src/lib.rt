@@ -1,6 +1,7 @@
 //! Bound tightening as steps that can be repeated: each end of a row narrows the interval of a column.
 #![tactic(auto)]
 
+mod end_sum;
 mod engine;
 pub mod laws;
 mod narrow;
