@@ -4,4 +4,5 @@ pub mod ProductLemmas
 pub mod EntryLemmas
 pub mod ShareLemmas
 pub mod SumLemmas
+pub mod SharedLaws
 pub mod Examples

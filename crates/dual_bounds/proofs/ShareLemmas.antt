@@ -90,6 +90,13 @@ share-more rows ends es k d row m j old now h at is before after =
     let here : counting ends (slice_index_or es k d) *ℤ coefficient j (slice_index_or rows (slice_index_or es k d).0 []) ≡ m *ℤ coefficient j row = ap (λ (z : ℤ). z *ℤ coefficient j (slice_index_or rows (slice_index_or es k d).0 [])) (sym is) ∙ ap (λ (ts : Terms). m *ℤ coefficient j ts) at in
     omega (arith, ints, before, after, step, here)
 
+-- the same where each entry counts
+pub share-more_all : (rows : List Terms) (es : List Entry) (k : ℕ) (d : Entry) (row : Terms) (j : ℕ) (old now : List ℤ) → k < length es → slice_index_or rows (slice_index_or es k d).0 [] ≡ row → share rows es j ≡ slice_index_or old j (pos 0) +ℤ share rows (drop k es) j → slice_index_or now j (pos 0) ≡ slice_index_or old j (pos 0) +ℤ (slice_index_or es k d).1 *ℤ coefficient j row → share rows es j ≡ slice_index_or now j (pos 0) +ℤ share rows (drop (suc k) es) j
+share-more_all rows es k d row j old now h at before after =
+    let step : share rows (drop k es) j ≡ (slice_index_or es k d).1 *ℤ coefficient j (slice_index_or rows (slice_index_or es k d).0 []) +ℤ share rows (drop (suc k) es) j = ap (λ (xs : List Entry). share rows xs j) (drop-cons es k d h) in
+    let here : (slice_index_or es k d).1 *ℤ coefficient j (slice_index_or rows (slice_index_or es k d).0 []) ≡ (slice_index_or es k d).1 *ℤ coefficient j row = ap (λ (ts : Terms). (slice_index_or es k d).1 *ℤ coefficient j ts) at in
+    omega (arith, ints, before, after, step, here)
+
 pub share-all : (rows : List Terms) (ends : List Ends) (es : List Entry) (k j : ℕ) → length es ≤ k → share rows (counted ends (drop k es)) j ≡ pos 0
 share-all rows ends es k j h = ap (λ (xs : List Entry). share rows (counted ends xs) j) (drop_of_length-le es h)
 

@@ -1,4 +1,6 @@
 pub mod Vectors
 pub mod Refusals
 pub mod Counting
+pub mod Shared
+pub mod SharedParts
 pub mod Laws

@@ -1,11 +1,14 @@
 // The sum and the bound of a vector over a box.
-ghost use Rattle.std.specs.Prelude.{◌≡◌, ◌^◌, ◌<◌, ◌≤◌, pos, unsigned_abs, length};
+ghost use Rattle.std.specs.Prelude.{◌≡◌, ◌^◌, ◌<◌, ◌≤◌, ◌+ℤ◌, pos, unsigned_abs, length};
+ghost use Rattle.int_model.specs.Programs.{CostsWithin};
 ghost use Rattle.int_model.specs.Integers.{ceil_div};
+ghost use Rattle.dual_bounds.specs.Shared.{AreShares};
 ghost use Rattle.dual_bounds.specs.Vectors.{RowsBelow, rows_of, vector_bound, vector_sum, within_range};
 
 use crate::parts::{end_sum, least_product, reduced_cost};
+use crate::shared::{have_ends, least_shared};
 use crate::shares::MAX_COLUMNS;
-use crate::{Vector, shares};
+use crate::{Shares, Vector, shares};
 use int_model::{Ends, Model, PointBox};
 
 const LIMIT: i128 = 1 << 60;
@@ -44,6 +47,38 @@ pub fn evaluate(
     sum
 }
 
+/// What [`evaluate`] answers, from shares of the vector that were summed before. It takes no memory.
+///
+/// Its time is in proportion to the columns, where the shares are narrow and the rows of the vector's entries
+/// have all their ends; else it is that of [`evaluate`].
+pub fn evaluate_with(
+    shares: &Shares,
+    model: &Model,
+    costs: &[i64],
+    ends: &[Ends],
+    vector: &Vector,
+    bounds: &PointBox,
+) -> i128
+    requires shares { AreShares model.now vector.now.entries shares.now }
+    requires costs { length costs.now ≡ length model.now.columns }
+    requires small { CostsWithin (10 ^ 9) costs.now }
+    requires ends { length ends.now ≡ length model.now.rows }
+    requires rows { RowsBelow (length model.now.rows) vector.now.entries }
+    requires columns { length bounds.now ≡ length model.now.columns }
+    ensures value { result ≡ vector_sum (rows_of model.now) ends.now costs.now vector.now bounds.now }
+    ensures limit { unsigned_abs result ≤ 2 ^ 115 }
+{
+    let _columns = model.columns();
+    let entries = vector.entries();
+    if have_ends(ends, entries)
+        && let Some(numbers) = shares.numbers()
+    {
+        let scale = vector.scale();
+        return end_sum(ends, entries) + least_shared(scale, costs, numbers, bounds);
+    }
+    evaluate(model, costs, ends, vector, bounds)
+}
+
 // A sum over the scale, rounded up.
 fn quotient(sum: i128, scale: u32) -> i128
     requires sum { unsigned_abs sum ≤ 2 ^ 115 }
@@ -60,6 +95,16 @@ fn nearest(value: i128) -> i64
     ensures limit { unsigned_abs result ≤ 2 ^ 60 }
 {
     (-LIMIT).max(LIMIT.min(value)) as i64
+}
+
+// A sum over the scale, rounded up, and the constant, brought into -2^60 to 2^60.
+fn rounded(sum: i128, scale: u32, constant: i64) -> i64
+    requires sum { unsigned_abs sum ≤ 2 ^ 115 }
+    requires scale { 0 < scale }
+    ensures value { result ≡ within_range (ceil_div sum (pos scale) +ℤ constant) }
+    ensures limit { unsigned_abs result ≤ 2 ^ 60 }
+{
+    nearest(quotient(sum, scale) + i128::from(constant))
 }
 
 /// The bound of a vector over a box: its sum over its scale, rounded up, and the constant, brought into
@@ -82,5 +127,29 @@ pub fn bound(
     ensures limit { unsigned_abs result ≤ 2 ^ 60 }
 {
     let sum = evaluate(model, costs, ends, vector, bounds);
-    nearest(quotient(sum, vector.scale()) + i128::from(constant))
+    rounded(sum, vector.scale(), constant)
+}
+
+/// What [`bound`] answers, from shares of the vector that were summed before. It takes no memory.
+pub fn bound_with(
+    shares: &Shares,
+    model: &Model,
+    costs: &[i64],
+    constant: i64,
+    ends: &[Ends],
+    vector: &Vector,
+    bounds: &PointBox,
+) -> i64
+    requires shares { AreShares model.now vector.now.entries shares.now }
+    requires scale { 0 < vector.now.scale }
+    requires costs { length costs.now ≡ length model.now.columns }
+    requires small { CostsWithin (10 ^ 9) costs.now }
+    requires ends { length ends.now ≡ length model.now.rows }
+    requires rows { RowsBelow (length model.now.rows) vector.now.entries }
+    requires columns { length bounds.now ≡ length model.now.columns }
+    ensures value { result ≡ vector_bound (rows_of model.now) ends.now costs.now constant vector.now bounds.now }
+    ensures limit { unsigned_abs result ≤ 2 ^ 60 }
+{
+    let sum = evaluate_with(shares, model, costs, ends, vector, bounds);
+    rounded(sum, vector.scale(), constant)
 }

@@ -7,11 +7,13 @@
 mod bounding;
 pub mod laws;
 mod parts;
+mod shared;
 mod shares;
 mod vector;
 
-pub use bounding::{bound, evaluate};
+pub use bounding::{bound, bound_with, evaluate, evaluate_with};
 pub use parts::{counting_multiplier, end_product, least_product, side};
+pub use shared::Shares;
 pub use vector::{Vector, VectorError};
 
 #[cfg(test)]

@@ -54,3 +54,19 @@ pub fn take(model: &Model, ends: &[Ends], entries: &[(u32, i64)], shares: &mut [
         add_row(shares, model.row(row).terms.as_slice(), counting);
     }
 }
+
+/// Takes the share of each column, each entry counted. The shares are 0 before.
+pub fn take_all(model: &Model, entries: &[(u32, i64)], shares: &mut [i128])
+    requires few { length entries.now ≤ 128 }
+    requires entries { AreEntries 0 entries.now }
+    requires rows { RowsBelow (length model.now.rows) entries.now }
+    requires columns { length model.now.columns ≤ length shares.old }
+    requires zero { (j : ℕ) → slice_index_or shares.old j (pos 0) ≡ pos 0 }
+    ensures value { (j : ℕ) → slice_index_or shares.new j (pos 0) ≡ spec.share (rows_of model.now) entries.now j }
+    ensures len { length shares.new ≡ length shares.old }
+{
+    let _columns = model.columns();
+    for &(row, multiplier) in entries {
+        add_row(shares, model.row(row).terms.as_slice(), multiplier);
+    }
+}

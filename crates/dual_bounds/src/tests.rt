@@ -111,6 +111,12 @@ fn sums_of_some_rows(rt: HostRuntime) -> Result<(), Fail> {
     assert_eq!(rt; evaluate(&model, &costs, &ends, &second, &bounds), 0);
     let absent = Vector::new(rt.alloc(), 1, &[(1, 3), (2, 2)])?;
     assert_eq!(rt; evaluate(&model, &costs, &ends, &absent, &bounds), 1);
+    let shares = Shares::of(&model, &first);
+    let sum = evaluate_with(&shares, &model, &costs, &ends, &first, &bounds);
+    assert_eq!(rt; sum, 1);
+    let shares = Shares::of(&model, &absent);
+    let sum = evaluate_with(&shares, &model, &costs, &ends, &absent, &bounds);
+    assert_eq!(rt; sum, 1);
     Ok(())
 }
 
