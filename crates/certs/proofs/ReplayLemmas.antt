@@ -54,6 +54,16 @@ length-after rows ends steps box t false h = by h.1
     by (inl p) = ap length p.1
     by (inr p) = length-steps rows ends (take p.1.0 steps) box t p.1.2.reached
 
+-- ---- what a replay answers
+
+pub replay-yes : (rows : List Terms) (ends : List Ends) (steps : List Step) (box t : Box) (b : Bool) → b ≡ true → IsReplayed rows ends steps box b t → replayed rows ends steps box ≡ Some t
+replay-yes rows ends steps box t true e h = h
+replay-yes rows ends steps box t false e h = absurd (cc)
+
+pub replay-no : (rows : List Terms) (ends : List Ends) (steps : List Step) (box t : Box) (b : Bool) → b ≡ false → IsReplayed rows ends steps box b t → replayed rows ends steps box ≡ None
+replay-no rows ends steps box t true e h = absurd (cc)
+replay-no rows ends steps box t false e h = h.0
+
 -- ---- the scenario's replay
 
 -- what the replay reads of a scenario, and the part of the box

@@ -1,5 +1,5 @@
 -- The hull of the stayers' replays, one stayer at a time.
-use Rattle.std.specs.Prelude.{◌≡◌, ℕ, zero, suc, ◌+◌, ◌<◌, ◌≤◌, ℤ, List, [], ◌∷◌, ◌++◌, length, slice_get, slice_index_or, Bool, true, false, ◌||◌, not, cond, is_some, Option, Some, None, IfSome, option_and_then, refl}
+use Rattle.std.specs.Prelude.{◌≡◌, ℕ, zero, suc, ◌+◌, ◌<◌, ◌≤◌, ℤ, List, [], ◌∷◌, ◌++◌, length, slice_get, slice_index_or, Bool, true, false, ◌||◌, not, cond, is_some, Option, Some, None, option_and_then, refl}
 use Rattle.std.specs.Int.{int_min, int_max}
 use Rattle.std.specs.List.{list_all}
 use Rattle.std.proofs.Common.{arith, ap, sym, ◌∙◌, append_assoc, ◌&&◌}
@@ -11,12 +11,11 @@ use Rattle.int_model.specs.RowSums.{row_misses}
 use Rattle.int_model.proofs.VolumeLaws.{HasPoints, points-not_empty, not_empty-points}
 use Rattle.tighten.specs.Replay.{replay}
 use Rattle.scenario_changes.specs.Problems.{Problem, program_at, IsWithin}
-use Rattle.certs.specs.Verdicts.{judged, row_level}
+use Rattle.certs.specs.Verdicts.{row_level}
 use Rattle.certs.specs.Trees.{some_row_misses, unmissed, both_boxes, stayer_box, stayer_boxes, hull_of_all, stayers_hull}
 use Rattle.certs.specs.declared.cert.Cert.{Cert}
 use Rattle.certs.specs.declared.level.Level.{Level}
 use Rattle.certs.specs.declared.level.Level.TheVariants.{Inf}
-use Rattle.certs.specs.declared.verdict.Verdict.TheVariants.{Empty}
 use Rattle.certs.proofs.TreeLaws.{stayer_box-is}
 use Rattle.certs.proofs.BoxParts.{replay-part}
 
@@ -57,32 +56,14 @@ none_misses s i box e g =
 
 -- ---- one stayer
 
-pub stays_empty : (p : Problem) (box : Box) (cert : Cert) (s : Program) (l : Level) → Some l ≡ judged s box cert Empty → stayer_box p box cert s ≡ None
-stays_empty p box cert s l e = by_replay (replay s cert.steps box) refl
-  where
-    by_replay : (o : Option Box) → replay s cert.steps box ≡ o → stayer_box p box cert s ≡ None
-    by_replay None q = ap (option_and_then (unmissed s p.rows)) q
-    by_replay (Some b) q = absurd (let w : Some l ≡ None = e ∙ rw q refl in cc)
+pub stays_empty : (p : Problem) (box : Box) (cert : Cert) (s : Program) → replay s cert.steps box ≡ None → stayer_box p box cert s ≡ None
+stays_empty p box cert s e = ap (option_and_then (unmissed s p.rows)) e
 
-record IsReplay (p : Problem) (box : Box) (cert : Cert) (s : Program) (part : Box) : Type 0 where
-  here : replay s cert.steps box ≡ Some part
+pub stays_missed : (p : Problem) (box : Box) (cert : Cert) (s : Program) (part : Box) → replay s cert.steps box ≡ Some part → some_row_misses s p.rows part ≡ true → stayer_box p box cert s ≡ None
+stays_missed p box cert s part e m = ap (option_and_then (unmissed s p.rows)) e ∙ ap (λ (b : Bool). cond b None (Some part)) m
 
-is_replay : (p : Problem) (box : Box) (cert : Cert) (s : Program) (part : Box) → None ≡ judged s box cert Empty → IfSome (replay s cert.steps box) (λ (b : Box). part ≡ b) → IsReplay p box cert s part
-is_replay p box cert s part e h = by_replay (replay s cert.steps box) refl h
-  where
-    by_replay : (o : Option Box) → replay s cert.steps box ≡ o → IfSome o (λ (b : Box). part ≡ b) → IsReplay p box cert s part
-    by_replay None q i = absurd (let w : None ≡ Some Inf = e ∙ rw q refl in cc)
-    by_replay (Some b) q i = record { here = q ∙ ap (λ (c : Box). Some c) (sym i) }
-
-pub stays_missed : (p : Problem) (box : Box) (cert : Cert) (s : Program) (part : Box) → None ≡ judged s box cert Empty → IfSome (replay s cert.steps box) (λ (b : Box). part ≡ b) → some_row_misses s p.rows part ≡ true → stayer_box p box cert s ≡ None
-stays_missed p box cert s part e h m =
-    let r : IsReplay p box cert s part = is_replay p box cert s part e h in
-    ap (option_and_then (unmissed s p.rows)) r.here ∙ ap (λ (b : Bool). cond b None (Some part)) m
-
-pub stays_in : (p : Problem) (box : Box) (cert : Cert) (s : Program) (part : Box) → None ≡ judged s box cert Empty → IfSome (replay s cert.steps box) (λ (b : Box). part ≡ b) → some_row_misses s p.rows part ≡ false → stayer_box p box cert s ≡ Some part
-stays_in p box cert s part e h m =
-    let r : IsReplay p box cert s part = is_replay p box cert s part e h in
-    ap (option_and_then (unmissed s p.rows)) r.here ∙ ap (λ (b : Bool). cond b None (Some part)) m
+pub stays_in : (p : Problem) (box : Box) (cert : Cert) (s : Program) (part : Box) → replay s cert.steps box ≡ Some part → some_row_misses s p.rows part ≡ false → stayer_box p box cert s ≡ Some part
+stays_in p box cert s part e m = ap (option_and_then (unmissed s p.rows)) e ∙ ap (λ (b : Bool). cond b None (Some part)) m
 
 -- a stayer's box isn't empty
 pub stays_occupied : (p : Problem) (box : Box) (cert : Cert) (s : Program) (part : Box) (columns rows : ℕ) → IsWithin columns rows s → length box ≡ columns → stayer_box p box cert s ≡ Some part → is_empty part ≡ false

@@ -16,17 +16,19 @@ mod raising;
 mod start;
 mod stayers;
 mod tree;
+mod vector_shares;
 mod verdict;
 
 pub use arriving::{children_levels, start_levels};
 pub use cert::Cert;
-pub use judging::{bound_level, farkas_level, judge};
+pub use judging::{bound_level, farkas_level, judge, replay_at};
 pub use level::Level;
 pub use lists::{Levels, Steps, Vectors, Verdicts};
 pub use raising::raise;
 pub use start::start_level;
 pub use stayers::{are_live, hull_stayers, is_member, is_stayer, live_level, missed_row, rising};
 pub use tree::{Node, Tree};
+pub use vector_shares::VectorShares;
 pub use verdict::Verdict;
 
 #[cfg(test)]

@@ -5,7 +5,7 @@ ghost use Rattle.scenario_changes.specs.Problems as problems;
 ghost use Rattle.certs.specs.Trees.{of_live, raised};
 ghost use Rattle.certs.specs.Verdicts.{AllRowsBelow};
 
-use crate::{Cert, Level, Levels, Verdicts, judge, live_level};
+use crate::{Cert, Level, Levels, VectorShares, Verdicts, judge, live_level};
 use int_model::PointBox;
 use live_sets::LiveSet;
 use scenario_changes::Problem;
@@ -14,7 +14,7 @@ use scenario_changes::Problem;
 /// False where a verdict isn't valid, is missing or is one too many. It takes no memory: the list has room
 /// for all scenarios.
 ///
-/// Its time is that of one [`judge`] for each live scenario.
+/// Its time is that of one [`judge`] for each live scenario, and of one pass over the rows of the vectors.
 #[tactic(auto, using(crate::proofs::RaiseLaws::raise_short, crate::proofs::RaiseLaws::raise_missing, crate::proofs::RaiseLaws::raise_bad))]
 pub fn raise(
     problem: &Problem,
@@ -38,6 +38,7 @@ pub fn raise(
     ensures no { result ≡ false → raised bounds.now cert.now (problems.problem problem.now).scenarios (of_live live 0 levels.now) verdicts.now ≡ None }
 {
     out.clear();
+    let shares = VectorShares::of(problem.model(), &cert.vectors);
     let mut rest = verdicts.as_slice();
     for k in 0..problem.count() {
         if k as usize >= levels.len() {
@@ -48,7 +49,7 @@ pub fn raise(
             Some(level) => match rest.split_first() {
                 None => return false,
                 Some((verdict, others)) => match judge(
-                    problem, k, bounds, cert, *verdict, scratch,
+                    problem, k, bounds, cert, &shares, *verdict, scratch,
                 ) {
                     None => return false,
                     Some(more) => {

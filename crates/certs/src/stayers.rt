@@ -7,9 +7,8 @@ ghost use Rattle.tighten.specs.Steps.{IsStep};
 ghost use Rattle.scenario_changes.specs.Problems.{program_at};
 ghost use Rattle.scenario_changes.specs.Problems as problems;
 ghost use Rattle.certs.specs.Trees.{of_live, is_live, is_rising, some_row_misses, stayer_box, stayers_hull};
-ghost use Rattle.certs.specs.Verdicts.{AllRowsBelow};
 
-use crate::{Cert, Level, Levels, Verdict, judge};
+use crate::{Cert, Level, Levels, replay_at};
 use activity::misses;
 use int_model::PointBox;
 use live_sets::LiveSet;
@@ -91,7 +90,6 @@ pub fn is_stayer(
     requires scenario { s < length (problems.problem problem.now).scenarios }
     requires columns { length bounds.now ≡ length problem.now.model.columns }
     requires steps { All (IsStep problem.now.model) cert.now.steps }
-    requires vectors { AllRowsBelow (length problem.now.model.rows) cert.now.vectors }
     requires part { length part.old ≡ length problem.now.model.columns }
     ensures yes { result ≡ true → stayer_box (problems.problem problem.now) bounds.now cert.now (program_at (problems.problem problem.now) s) ≡ Some part.new }
     ensures no { result ≡ false → stayer_box (problems.problem problem.now) bounds.now cert.now (program_at (problems.problem problem.now) s) ≡ None }
@@ -99,10 +97,7 @@ pub fn is_stayer(
     ensures count { length part.new ≡ length problem.now.model.columns }
 {
     let _limits = problem.costs(s);
-    match judge(problem, s, bounds, cert, Verdict::Empty, part) {
-        Some(_) => false,
-        None => missed_row(problem, s, part).is_none(),
-    }
+    replay_at(problem, s, bounds, cert, part) && missed_row(problem, s, part).is_none()
 }
 
 /// Puts the hull of the stayers' replays into `hull`. False where there is none: no scenario stays, or the
@@ -117,7 +112,6 @@ pub fn hull_stayers(
 ) -> bool
     requires columns { length bounds.now ≡ length problem.now.model.columns }
     requires steps { All (IsStep problem.now.model) cert.now.steps }
-    requires vectors { AllRowsBelow (length problem.now.model.rows) cert.now.vectors }
     requires hull { length hull.old ≡ length problem.now.model.columns }
     requires replay { length replay.old ≡ length problem.now.model.columns }
     ensures yes { result ≡ true → stayers_hull (problems.problem problem.now) bounds.now cert.now stay ≡ Some hull.new }

@@ -1,4 +1,6 @@
-ghost use Rattle.std.specs.Prelude.{◌≡◌};
+ghost use Rattle.std.specs.Prelude.{◌≡◌, length};
+ghost use Rattle.certs.specs.Shared.{HaveShares};
+ghost use Rattle.certs.specs.Verdicts.{AllRowsBelow};
 ghost use Rattle.tighten.specs.declared.step.RowEnd.TheVariants.{Upper};
 
 use super::*;
@@ -75,6 +77,13 @@ fn two_vectors(alloc: Global) -> Result<Cert, Fail> {
     })
 }
 
+fn shares_of(problem: &Problem, cert: &Cert) -> VectorShares
+    requires { AllRowsBelow (length problem.now.model.rows) cert.now.vectors }
+    ensures { HaveShares problem.now.model cert.now.vectors result }
+{
+    VectorShares::of(problem.model(), &cert.vectors)
+}
+
 #[test]
 fn judges_four_scenarios_at_the_root_box(rt: HostRuntime) -> Result<(), Fail> {
     let model = Model::build(rt.alloc(), cap(rt.alloc())?)?;
@@ -98,10 +107,11 @@ fn judges_four_scenarios_at_the_root_box(rt: HostRuntime) -> Result<(), Fail> {
         (0, Verdict::Bound(2), None),
         (3, Verdict::Bound(0), None),
     ];
+    let shares = shares_of(&problem, &cert);
     for (s, verdict, level) in table {
         let mut scratch = bounds.copy(rt.alloc())?;
         assert!(rt; s < problem.count());
-        let found = judge(&problem, s, &bounds, &cert, verdict, &mut scratch);
+        let found = judge(&problem, s, &bounds, &cert, &shares, verdict, &mut scratch);
         assert_eq!(rt; found, level);
     }
     Ok(())
@@ -141,7 +151,17 @@ fn judges_at_a_root_box(rt: HostRuntime) -> Result<(), Fail> {
         steps: Steps::from_vec(vec![in rt.alloc(); upper(0), upper(1)]?),
         vectors,
     };
-    let level = judge(&problem, 0, &bounds, &cert, Verdict::Bound(0), &mut scratch);
+    assert!(rt; cert.fits(&problem));
+    let shares = shares_of(&problem, &cert);
+    let level = judge(
+        &problem,
+        0,
+        &bounds,
+        &cert,
+        &shares,
+        Verdict::Bound(0),
+        &mut scratch,
+    );
     assert_eq!(rt; level, Some(Level::Value(-7)));
     assert_eq!(rt; scratch.highs(), [2, 3].as_slice());
     assert_eq!(rt; start_level(&problem, 0), Level::Value(-15));

@@ -4,7 +4,7 @@ ghost use Rattle.scenario_changes.specs.Problems.{problem as problem_of_scenario
 ghost use Rattle.tighten.specs.Steps.{IsStep};
 ghost use Rattle.certs.specs.Verdicts.{AllRowsBelow};
 
-use certs::{Cert, Level, Steps, Vectors, Verdict, judge};
+use certs::{Cert, Level, Steps, VectorShares, Vectors, Verdict, judge};
 use dual_bounds::{Vector, VectorError, evaluate};
 use int_model::PointBox;
 use scenario_changes::Problem;
@@ -137,7 +137,16 @@ fn judged(problem: &Problem, cert: &Cert, bounds: &PointBox, scratch: &mut Point
     requires scratch { length scratch.old ≡ length problem.now.model.columns }
     ensures { length scratch.new ≡ length problem.now.model.columns }
 {
-    match judge(problem, 0, bounds, cert, Verdict::Bound(0), scratch) {
+    let shares = VectorShares::of(problem.model(), &cert.vectors);
+    match judge(
+        problem,
+        0,
+        bounds,
+        cert,
+        &shares,
+        Verdict::Bound(0),
+        scratch,
+    ) {
         Some(Level::Value(value)) => value,
         _ => 0,
     }

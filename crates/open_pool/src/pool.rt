@@ -190,6 +190,7 @@ impl<'p> Pool<'p> {
     /// Its time is that of replaying the steps twice for each live scenario, and of one evaluation of a
     /// vector.
     #[tactic(auto, using(crate::proofs::SoundLaws::length_reopened))]
+    #[inline(never)]
     pub fn settle(&mut self, settlement: Settlement) -> Settled
         ensures { IsSettled self.old (settlement_of settlement) self.new result }
     {
