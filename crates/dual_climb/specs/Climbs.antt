@@ -4,6 +4,7 @@ use Rattle.int_model.specs.Boxes.{Box}
 use Rattle.int_model.specs.declared.model.Ends.{Ends}
 use Rattle.dual_climb.specs.declared.relaxation.Term.{Term}
 use Rattle.dual_climb.specs.declared.relaxation.FreeColumn.{FreeColumn}
+use Rattle.dual_climb.specs.declared.interior.Span.{Span}
 
 -- a whole number in fixed point, with 14 bits after the point
 abbrev pub fixed : ℤ → ℤ
@@ -39,3 +40,11 @@ IsSpan n c = (c.start ≤ c.end) × (c.end ≤ n)
 pub record IsRelaxation (columns : List FreeColumn) (terms : List Term) (ends : List Ends) : Type 0 where
   pub spans : All (IsSpan (length terms)) columns
   pub rows : All (IsBelow (length ends)) terms
+
+-- the span's terms lie among the first n
+abbrev pub IsPart : ℕ → Span → Type 0
+IsPart n s = (s.start ≤ s.end) × (s.end ≤ n)
+
+pub record IsInterior (rows : ℕ) (spans : List Span) (terms : List Term) : Type 0 where
+  pub parts : All (IsPart (length terms)) spans
+  pub below : All (IsBelow rows) terms

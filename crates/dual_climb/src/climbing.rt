@@ -23,6 +23,9 @@ const ROUNDS_PER_CORRECTION: u32 = 20;
 /// Totals are made after every so many rounds.
 const ROUNDS_PER_TOTAL: u32 = 5;
 
+/// One pass of so many goes over all columns; the others pass over those that rest.
+const PASSES_PER_WHOLE: u32 = 3;
+
 /// From this round on a climb may end for slowness.
 const FIRST_SLOW_ROUND: u32 = 40;
 
@@ -108,6 +111,11 @@ impl Limits {
     fn is_patient(&self) -> bool {
         self.passes >= PATIENT_PASSES
     }
+
+    // Whether a climb with this total some rounds earlier is to end for slowness.
+    fn is_too_slow(&self, pass: u32, best: &Best, earlier: i128) -> bool {
+        pass >= FIRST_SLOW_ROUND && !self.is_patient() && best.is_slow(earlier)
+    }
 }
 
 // The total above which the bound reaches the cut: the bound is the total with the fixed columns' cost, over
@@ -164,7 +172,14 @@ fn ascend(
     let mut state = State::new(alloc, relaxation, &sums, start)?;
     let mut best = Best::new(alloc, total, multipliers, limits.enough, scale)?;
     let mut correction = Correction::new(alloc, relaxation)?;
-    run(relaxation, limits, &mut state, &mut best, &mut correction);
+    run(
+        alloc,
+        relaxation,
+        limits,
+        &mut state,
+        &mut best,
+        &mut correction,
+    )?;
     multipliers.copy_from_slice(best.multipliers());
     point.copy_from_slice(state.point());
     Ok(fraction)
@@ -172,86 +187,112 @@ fn ascend(
 
 // The rounds of a climb, and a last correction.
 fn run(
+    alloc: Global,
     relaxation: &Relaxation,
     limits: Limits,
     state: &mut State,
     best: &mut Best,
     correction: &mut Correction,
-)
+) -> Result<(), AllocError>
     requires state { state.old ≡ relaxation.now }
     requires best { best.old ≡ relaxation.now.rows }
-    requires correction { correction.old ≡ relaxation.now }
+    requires correction { correction.old ≡ relaxation.now.rows }
     ensures state { state.new ≡ state.old }
     ensures best { best.new ≡ best.old }
 {
-    rounds(relaxation, limits, state, best, correction);
+    rounds(alloc, relaxation, limits, state, best, correction)?;
     if !best.is_enough() {
-        try_correction(relaxation, state, best, correction);
+        try_correction(alloc, relaxation, state, best, correction)?;
     }
+    Ok(())
 }
 
 // The rounds of a climb.
 fn rounds(
+    alloc: Global,
     relaxation: &Relaxation,
     limits: Limits,
     state: &mut State,
     best: &mut Best,
     correction: &mut Correction,
-)
+) -> Result<(), AllocError>
     requires state { state.old ≡ relaxation.now }
     requires best { best.old ≡ relaxation.now.rows }
-    requires correction { correction.old ≡ relaxation.now }
+    requires correction { correction.old ≡ relaxation.now.rows }
     ensures state { state.new ≡ state.old }
     ensures best { best.new ≡ best.old }
     ensures correction { correction.new ≡ correction.old }
 {
     let mut earlier = best.total();
+    let mut has_moved = false;
     let mut still = false;
     for pass in 0..limits.passes {
         if pass > 0 && pass % ROUNDS_PER_CORRECTION == 0 {
-            if try_correction(relaxation, state, best, correction) {
-                state.restart(best.multipliers());
-            }
-            let may_be_slow = pass >= FIRST_SLOW_ROUND && !limits.is_patient();
-            if best.is_enough() || (may_be_slow && best.is_slow(earlier)) {
-                return;
+            try_from_correction(alloc, relaxation, state, best, correction)?;
+            if best.is_enough() || limits.is_too_slow(pass, best, earlier) {
+                return Ok(());
             }
             earlier = best.total();
         }
-        let moved = state.pass(relaxation);
-        if (pass + 1) % ROUNDS_PER_TOTAL == 0 || pass + 1 == limits.passes || !moved {
+        let is_whole = !has_moved || pass % PASSES_PER_WHOLE == 0;
+        has_moved = state.pass(relaxation, is_whole);
+        let is_still = is_whole && !has_moved;
+        if (pass + 1) % ROUNDS_PER_TOTAL == 0 || pass + 1 == limits.passes || is_still {
             let total = relaxation.total(state.multipliers());
             best.try_round(total, state.multipliers());
             if best.is_enough() || best.is_idle() {
-                return;
+                return Ok(());
             }
         }
         let same = state.adapt();
-        if !moved && same {
+        if is_still && same {
             if still {
-                return;
+                return Ok(());
             }
             still = true;
         }
     }
+    Ok(())
+}
+
+// Tries a correction. One that is the best so far is where the climb goes on.
+fn try_from_correction(
+    alloc: Global,
+    relaxation: &Relaxation,
+    state: &mut State,
+    best: &mut Best,
+    correction: &mut Correction,
+) -> Result<(), AllocError>
+    requires state { state.old ≡ relaxation.now }
+    requires best { best.old ≡ relaxation.now.rows }
+    requires correction { correction.old ≡ relaxation.now.rows }
+    ensures state { state.new ≡ state.old }
+    ensures best { best.new ≡ best.old }
+    ensures correction { correction.new ≡ correction.old }
+{
+    if try_correction(alloc, relaxation, state, best, correction)? {
+        state.restart(best.multipliers());
+    }
+    Ok(())
 }
 
 // Tries a correction. Whether it is the best so far.
 fn try_correction(
+    alloc: Global,
     relaxation: &Relaxation,
     state: &State,
     best: &mut Best,
     correction: &mut Correction,
-) -> bool
+) -> Result<bool, AllocError>
     requires state { state.now ≡ relaxation.now }
     requires best { best.old ≡ relaxation.now.rows }
-    requires correction { correction.old ≡ relaxation.now }
+    requires correction { correction.old ≡ relaxation.now.rows }
     ensures best { best.new ≡ best.old }
     ensures correction { correction.new ≡ correction.old }
 {
-    if !correction.correct(relaxation, state) {
-        return false;
+    if !correction.correct(alloc, relaxation, state)? {
+        return Ok(false);
     }
     let total = relaxation.total(correction.multipliers());
-    best.offer(total, correction.multipliers())
+    Ok(best.offer(total, correction.multipliers()))
 }

@@ -2,7 +2,8 @@
 // makes the reduced costs of the interior columns vanish.
 ghost use Rattle.std.specs.Prelude.{◌≡◌, ◌<◌, length, IfOk};
 
-use crate::relaxation::{Relaxation, reduced_cost};
+use crate::interior::Interior;
+use crate::relaxation::Relaxation;
 use crate::residuals::{Change, FINER_BITS, Residual, advance, images, quotient, redirect, slopes};
 use crate::state::State;
 use std::alloc::{AllocError, Global};
@@ -14,28 +15,21 @@ const MOST_ROUNDS: u32 = 60;
 /// Slopes whose squares add up to less than this are as good as none.
 const LEAST_SQUARES: i128 = 1 << 12;
 
-const MOST_STEP: i128 = 1 << 60;
-
-const MOST_TURN: i128 = 1 << 50;
-
-/// A reduced cost above this is too large to be corrected.
-const MOST_REDUCED: i64 = 1 << 38;
+const MOST_TURN: i64 = 1 << 50;
 
 /// What a correction works on, and the multipliers that it makes.
 #[derive(Drop)]
 pub(crate) struct Correction {
-    columns: Vec<Residual>,
     rows: Vec<Change>,
     multipliers: Vec<i64>,
 }
 
 impl marker::Model for Correction {
-    ghost use Rattle.std.specs.Prelude.{◌≡◌, length};
-    ghost use Rattle.dual_climb.specs.Climbs.{Size};
+    ghost use Rattle.std.specs.Prelude.{ℕ, ◌≡◌, length};
 
-    ghost Value = { Size };
+    ghost Value = { ℕ };
 
-    ghost view = { λ c. record { rows = length c.rows.items; columns = length c.columns.items } };
+    ghost view = { λ c. length c.rows.items };
 
     ghost invariant = { λ c. length c.multipliers.items ≡ length c.rows.items };
 }
@@ -43,13 +37,8 @@ impl marker::Model for Correction {
 impl Correction {
     /// Room for corrections.
     pub fn new(alloc: Global, relaxation: &Relaxation) -> Result<Correction, AllocError>
-        ensures { IfOk result (λ c. c ≡ relaxation.now) }
+        ensures { IfOk result (λ c. c ≡ relaxation.now.rows) }
     {
-        let column = Residual {
-            interior: false,
-            left: 0,
-            image: 0,
-        };
         let row = Change {
             active: false,
             change: 0,
@@ -57,7 +46,6 @@ impl Correction {
             direction: 0,
         };
         Ok(Correction {
-            columns: vec![in alloc; column; relaxation.count()]?,
             rows: vec![in alloc; row; relaxation.rows()]?,
             multipliers: vec![in alloc; 0; relaxation.rows()]?,
         })
@@ -65,30 +53,39 @@ impl Correction {
 
     /// The multipliers that the last correction made.
     pub fn multipliers(&self) -> &[i64]
-        ensures { length result.now ≡ self.now.rows }
+        ensures { length result.now ≡ self.now }
     {
         &self.multipliers
     }
 
     /// Corrects the multipliers of a state. Whether there was something to correct.
-    pub fn correct(&mut self, relaxation: &Relaxation, state: &State) -> bool
-        requires size { self.old ≡ relaxation.now }
+    pub fn correct(
+        &mut self,
+        alloc: Global,
+        relaxation: &Relaxation,
+        state: &State,
+    ) -> Result<bool, AllocError>
+        requires size { self.old ≡ relaxation.now.rows }
         requires state { state.now ≡ relaxation.now }
         ensures { self.new ≡ self.old }
     {
         mark_rows(relaxation, state, &mut self.rows);
-        if !mark_columns(relaxation, state, &mut self.columns) {
-            return false;
+        let Some((interior, mut columns)) = Interior::new(alloc, relaxation, state, &self.rows)?
+        else {
+            return Ok(false);
+        };
+        if interior.count() == 0 {
+            return Ok(false);
         }
-        let Some(squares) = slopes(relaxation, &self.columns, &mut self.rows) else {
-            return false;
+        let Some(squares) = slopes(&interior, &columns, &mut self.rows) else {
+            return Ok(false);
         };
         if !redirect(&mut self.rows, 0) {
-            return false;
+            return Ok(false);
         }
-        run(relaxation, &mut self.columns, &mut self.rows, squares);
+        run(&interior, &mut columns, &mut self.rows, squares);
         corrected(state, &self.rows, &mut self.multipliers);
-        true
+        Ok(true)
     }
 }
 
@@ -109,63 +106,16 @@ fn mark_rows(relaxation: &Relaxation, state: &State, rows: &mut [Change])
     }
 }
 
-// Marks the columns whose numbers lie inside their intervals, with their reduced costs. Whether there are
-// some, and none is too large.
-fn mark_columns(relaxation: &Relaxation, state: &State, columns: &mut [Residual]) -> bool
-    requires size { length columns.old ≡ relaxation.now.columns }
-    requires state { state.now ≡ relaxation.now }
-    ensures { length columns.new ≡ length columns.old }
-{
-    let mut some = false;
-    for t in 0..columns.len() {
-        let interior = is_interior(relaxation, state, t);
-        let mut left = 0;
-        if interior {
-            let cost = relaxation.column(t).cost;
-            let reduced = reduced_cost(relaxation.terms(t), state.multipliers(), cost);
-            if reduced.wrapping_abs() > MOST_REDUCED {
-                return false;
-            }
-            left = reduced.wrapping_shl(FINER_BITS);
-            some = true;
-        }
-        columns[t] = Residual {
-            interior,
-            left,
-            image: 0,
-        };
-    }
-    some
-}
-
-// Whether a column's number is more than a 32nd away from both sides.
-fn is_interior(relaxation: &Relaxation, state: &State, t: usize) -> bool
-    requires column { t < relaxation.now.columns }
-    requires state { state.now ≡ relaxation.now }
-{
-    let column = relaxation.column(t);
-    let bits = state.fraction();
-    let number = state.point()[t];
-    let margin = 1i64.wrapping_shl(bits.saturating_sub(5));
-    let low = i64::from(column.low)
-        .wrapping_shl(bits)
-        .wrapping_add(margin);
-    let high = i64::from(column.high)
-        .wrapping_shl(bits)
-        .wrapping_sub(margin);
-    low < number && number < high
-}
-
 // The rounds of the conjugate gradient method.
-fn run(relaxation: &Relaxation, columns: &mut [Residual], rows: &mut [Change], squares: i128)
-    requires columns { length columns.old ≡ relaxation.now.columns }
-    requires rows { length rows.old ≡ relaxation.now.rows }
+fn run(interior: &Interior, columns: &mut [Residual], rows: &mut [Change], squares: i128)
+    requires columns { length columns.old ≡ interior.now.columns }
+    requires rows { length rows.old ≡ interior.now.rows }
     ensures columns { length columns.new ≡ length columns.old }
     ensures rows { length rows.new ≡ length rows.old }
 {
     let mut squares = squares;
     for _ in 0..MOST_ROUNDS {
-        match round(relaxation, columns, rows, squares) {
+        match round(interior, columns, rows, squares) {
             Some(next) => squares = next,
             None => return,
         }
@@ -174,28 +124,28 @@ fn run(relaxation: &Relaxation, columns: &mut [Residual], rows: &mut [Change], s
 
 // One round. The squares of the next slopes, None where there is none.
 fn round(
-    relaxation: &Relaxation,
+    interior: &Interior,
     columns: &mut [Residual],
     rows: &mut [Change],
     squares: i128,
 ) -> Option<i128>
-    requires columns { length columns.old ≡ relaxation.now.columns }
-    requires rows { length rows.old ≡ relaxation.now.rows }
+    requires columns { length columns.old ≡ interior.now.columns }
+    requires rows { length rows.old ≡ interior.now.rows }
     ensures columns { length columns.new ≡ length columns.old }
     ensures rows { length rows.new ≡ length rows.old }
 {
     if squares < LEAST_SQUARES {
         return None;
     }
-    let images = images(relaxation, columns, rows)?;
+    let images = images(interior, columns, rows)?;
     if images == 0 {
         return None;
     }
-    let step = quotient(squares, images).min(MOST_STEP);
+    let step = quotient(squares, images);
     if step == 0 || !advance(columns, rows, step) {
         return None;
     }
-    let next = slopes(relaxation, columns, rows)?;
+    let next = slopes(interior, columns, rows)?;
     let turn = quotient(next, squares);
     if turn > MOST_TURN || !redirect(rows, turn) {
         return None;

@@ -76,11 +76,25 @@ fn want_of_memory(error: VectorError) -> AllocError
     AllocError
 }
 
+// Whether more multipliers aren't 0 than a vector may have.
+fn are_many(multipliers: &[i64]) -> bool {
+    let mut count: usize = 0;
+    for &multiplier in multipliers {
+        if multiplier != 0 {
+            count = count.wrapping_add(1);
+        }
+    }
+    count > MOST_ENTRIES
+}
+
 // Makes all but the 128 weightiest multipliers 0.
 fn drop_least(alloc: Global, model: &Model, multipliers: &mut [i64]) -> Result<(), AllocError>
     requires { length multipliers.old ≡ length model.now.rows }
     ensures { length multipliers.new ≡ length multipliers.old }
 {
+    if !are_many(multipliers) {
+        return Ok(());
+    }
     let mut weights = Vec::new(alloc);
     for i in 0..model.rows() {
         let multiplier = multipliers[i as usize];

@@ -8,6 +8,7 @@ mod best;
 mod climbing;
 mod correction;
 mod entries;
+mod interior;
 mod pass;
 mod penalties;
 mod points;

@@ -1,4 +1,7 @@
 // The move of one free column: a Newton step on the augmented Lagrangian within the column's interval.
+//
+// Most columns stay where they are, so the loop over their gradients decides the time of a pass. What only a
+// column that moves needs is kept out of line, which leaves that loop more registers.
 ghost use Rattle.std.specs.Prelude.{◌≡◌, length, All};
 ghost use Rattle.dual_climb.specs.Climbs.{IsBelow};
 
@@ -18,7 +21,9 @@ struct Slope {
     curvature: i64,
 }
 
-/// Moves each free column once, in rising order. Whether one moved.
+/// Moves each free column once, in rising order, or where the pass isn't a whole one each that doesn't rest.
+/// A column rests while it stayed where it was when it was looked at last. Whether one moved.
+#[inline(never)]
 pub(crate) fn move_columns(
     relaxation: &Relaxation,
     point: &mut [i64],
@@ -26,22 +31,30 @@ pub(crate) fn move_columns(
     multipliers: &mut [i64],
     penalties: &[i64],
     precision: Precision,
+    rests: &mut [bool],
+    is_whole: bool,
 ) -> bool
     requires point { length point.old ≡ relaxation.now.columns }
+    requires rests { length rests.old ≡ relaxation.now.columns }
     requires rows { length rows.old ≡ relaxation.now.rows }
     requires multipliers { length multipliers.old ≡ length rows.old }
     requires penalties { length penalties.now ≡ length rows.old }
     ensures point { length point.new ≡ length point.old }
+    ensures rests { length rests.new ≡ length rests.old }
     ensures rows { length rows.new ≡ length rows.old }
     ensures multipliers { length multipliers.new ≡ length multipliers.old }
 {
     let mut moved = false;
     for t in 0..relaxation.count() {
+        if rests[t] && !is_whole {
+            continue;
+        }
         let from = point[t];
         let column = relaxation.column(t);
         let terms = relaxation.terms(t);
         let to = move_column(column, terms, from, rows, multipliers, penalties, precision);
         point[t] = to;
+        rests[t] = to == from;
         moved = moved || to != from;
     }
     moved
@@ -63,8 +76,16 @@ fn move_column(
     ensures rows { length rows.new ≡ length rows.old }
     ensures multipliers { length multipliers.new ≡ length multipliers.old }
 {
-    let slope = slope_at(terms, multipliers, penalties, column.cost);
-    let to = target(column, from, slope, precision);
+    let (low, high) = sides(column, precision);
+    let gradient = reduced_cost(terms, multipliers, column.cost);
+    if !may_move(from, gradient, low, high) {
+        return from;
+    }
+    let slope = Slope {
+        gradient,
+        curvature: curvature_at(terms, multipliers, penalties),
+    };
+    let to = target(from, slope, low, high, precision.shift());
     if to == from {
         return from;
     }
@@ -89,47 +110,49 @@ fn move_column(
     to.wrapping_sub(back)
 }
 
-// The slope in a column with these terms. A penalty times a square is at most 2^62, as its range says, and
-// the curvature stops at the end of its type; a gradient is below 2^62 by the limit of the multipliers.
-fn slope_at(terms: &[Term], multipliers: &[i64], penalties: &[i64], cost: i64) -> Slope
+// The sides of a column's interval in fixed point. Bounds are below 2^20, so these are below 2^34.
+fn sides(column: FreeColumn, precision: Precision) -> (i64, i64) {
+    (
+        i64::from(column.low).wrapping_shl(precision.fraction),
+        i64::from(column.high).wrapping_shl(precision.fraction),
+    )
+}
+
+// Whether a column can go to where the augmented Lagrangian is less. Most columns stay at a side, so this
+// is asked before the curvature is made.
+fn may_move(from: i64, gradient: i64, low: i64, high: i64) -> bool {
+    if gradient > 0 {
+        from > low
+    } else {
+        gradient < 0 && from < high
+    }
+}
+
+// How fast the gradient grows in a column with these terms. A penalty times a square is at most 2^62, as
+// its range says, and the sum stops at the end of its type.
+#[inline(never)]
+fn curvature_at(terms: &[Term], multipliers: &[i64], penalties: &[i64]) -> i64
     requires terms { All (IsBelow (length multipliers.now)) terms.now }
     requires penalties { length penalties.now ≡ length multipliers.now }
 {
-    let mut gradient = cost;
     let mut curvature: i64 = 0;
     for &term in terms {
         let i = term.row as usize;
-        let multiplier = multipliers[i];
-        if multiplier != 0 {
+        if multipliers[i] != 0 {
             let coefficient = i64::from(term.coefficient);
-            gradient = gradient.wrapping_sub(coefficient.wrapping_mul(multiplier));
             let square = coefficient.wrapping_mul(coefficient);
             curvature = curvature.saturating_add(penalties[i].wrapping_mul(square));
         }
     }
-    Slope {
-        gradient,
-        curvature,
-    }
+    curvature
 }
 
-// Where a column moves to. Bounds are below 2^20, so 2^34 in fixed point.
-fn target(column: FreeColumn, from: i64, slope: Slope, precision: Precision) -> i64 {
-    let low = i64::from(column.low).wrapping_shl(precision.fraction);
-    let high = i64::from(column.high).wrapping_shl(precision.fraction);
-    if slope.gradient > 0 && from > low {
-        if slope.curvature == 0 {
-            return low;
-        }
-    } else if slope.gradient < 0 && from < high {
-        if slope.curvature == 0 {
-            return high;
-        }
-    } else {
-        return from;
+// Where a column moves to that may move.
+fn target(from: i64, slope: Slope, low: i64, high: i64, shift: u32) -> i64 {
+    if slope.curvature == 0 {
+        return if slope.gradient > 0 { low } else { high };
     }
-    let step = quotient(slope, precision.shift());
-    from.wrapping_sub(step).max(low).min(high)
+    from.wrapping_sub(quotient(slope, shift)).max(low).min(high)
 }
 
 // The gradient times 2^shift over the curvature, which is above 0.
@@ -168,6 +191,7 @@ fn excess(by: i64, before: i64, after: i64) -> i64 {
 
 // Updates the rows of a column that moves. Whether a multiplier that was 0 is no longer. Activities are
 // below 2^61 by the choice of the fraction's bits.
+#[inline(never)]
 fn change(
     terms: &[Term],
     by: i64,

@@ -121,6 +121,7 @@ impl Relaxation {
 
     /// The sum of the multipliers over the free columns: the multipliers times the ends, and the least of
     /// each reduced cost times a number of its interval.
+    #[inline(never)]
     pub fn total(&self, multipliers: &[i64]) -> i128
         requires { length multipliers.now ≡ self.now.rows }
     {

@@ -18,22 +18,25 @@ const MOST_VIOLATION: i64 = 1 << 31;
 
 impl Row {
     /// The multiplier of the augmented Lagrangian: the centre, moved by the penalty times how far the
-    /// activity lies from an end.
+    /// activity lies from an end. A row that lacks an end has no multiplier of its side.
     pub fn multiplier(&self, penalty: i64, shift: u32) -> i64 {
-        let raised = self
-            .center
-            .wrapping_add(force(self.lower, self.activity, penalty, shift));
-        if raised > 0 {
-            return raised.min(self.greatest);
+        if self.greatest != 0 {
+            let raised = self
+                .center
+                .wrapping_add(force(self.lower, self.activity, penalty, shift));
+            if raised > 0 {
+                return raised.min(self.greatest);
+            }
         }
-        let lowered = self
-            .center
-            .wrapping_add(force(self.upper, self.activity, penalty, shift));
-        if lowered < 0 {
-            lowered.max(self.least)
-        } else {
-            0
+        if self.least != 0 {
+            let lowered = self
+                .center
+                .wrapping_add(force(self.upper, self.activity, penalty, shift));
+            if lowered < 0 {
+                return lowered.max(self.least);
+            }
         }
+        0
     }
 }
 

@@ -51,6 +51,8 @@ pub(crate) struct State {
     multipliers: Vec<i64>,
     penalties: Vec<i64>,
     ranges: Vec<PenaltyRange>,
+    // Whether a column stayed where it was when it was looked at last.
+    rests: Vec<bool>,
 }
 
 impl marker::Model for State {
@@ -62,7 +64,7 @@ impl marker::Model for State {
 
     ghost view = { λ s. record { rows = length s.rows.items; columns = length s.point.items } };
 
-    ghost invariant = { λ s. IsState s.rows.items s.multipliers.items s.penalties.items s.ranges.items };
+    ghost invariant = { λ s. IsState s.rows.items s.multipliers.items s.penalties.items s.ranges.items s.point.items s.rests.items };
 }
 
 impl State {
@@ -94,6 +96,7 @@ impl State {
             multipliers: start.multipliers.to_vec(alloc)?,
             penalties: first_penalties(alloc, &ranges)?,
             ranges,
+            rests: vec![in alloc; false; relaxation.count()]?,
         };
         state.restart(start.multipliers);
         Ok(state)
@@ -125,8 +128,9 @@ impl State {
         self.rows[i]
     }
 
-    /// Moves each free column once. Whether one moved.
-    pub fn pass(&mut self, relaxation: &Relaxation) -> bool
+    /// Moves each free column once, or where the pass isn't a whole one each that doesn't rest. Whether one
+    /// moved.
+    pub fn pass(&mut self, relaxation: &Relaxation, is_whole: bool) -> bool
         requires { self.old ≡ relaxation.now }
         ensures { self.new ≡ self.old }
     {
@@ -137,6 +141,8 @@ impl State {
             &mut self.multipliers,
             &self.penalties,
             self.precision,
+            &mut self.rests,
+            is_whole,
         )
     }
 
@@ -253,6 +259,7 @@ fn first_penalties(alloc: Global, ranges: &[PenaltyRange]) -> Result<Vec<i64>, A
 }
 
 // Ends a round of the rows.
+#[inline(never)]
 fn adapt_rows(
     rows: &mut [Row],
     multipliers: &mut [i64],
@@ -277,8 +284,8 @@ fn adapt_rows(
             penalties[i] = adapted(penalties[i], direction, ranges[i]);
             ranges[i].direction = direction;
             rows[i].center = multiplier;
+            multipliers[i] = rows[i].multiplier(penalties[i], shift);
         }
-        multipliers[i] = rows[i].multiplier(penalties[i], shift);
     }
     same
 }
