@@ -1,10 +1,9 @@
 -- The list of one or two vectors.
-use Rattle.std.specs.Prelude.{◌≡◌, ℕ, ◌≤◌, List, [], ◌∷◌, ◌++◌, length, slice_get, Option, Some, None, IfSome, refl}
+use Rattle.std.specs.Prelude.{◌≡◌, ℕ, List, [], ◌∷◌, ◌++◌, Option, Some, None, IfSome, refl}
 use Rattle.std.proofs.Common.{arith, sym, ap, ◌∙◌, subst}
 use Rattle.int_model.specs.Boxes.{Box}
 use Rattle.dual_bounds.specs.Vectors.{Multipliers, RowsBelow}
 use Rattle.scenario_changes.specs.Problems.{Problem}
-use Rattle.certs.specs.Verdicts.{AllRowsBelow}
 use Rattle.node_work.specs.Probes.{IsAscent}
 use Rattle.node_work.specs.Choices.{AreBounding}
 

@@ -8,16 +8,16 @@ use Rattle.tighten.specs.Replay.{replay}
 use Rattle.dual_bounds.specs.Vectors.{Multipliers, program_bound}
 use Rattle.scenario_changes.specs.Problems.{Problem, program_at}
 use Rattle.certs.specs.Levels.{level_le}
-use Rattle.certs.specs.Trees.{unmissed, some_row_misses, stayer_box}
-use Rattle.certs.specs.Verdicts.{judged, level_over, level_on, row_level, point_level, bound_level, farkas_level}
+use Rattle.certs.specs.Trees.{some_row_misses}
+use Rattle.certs.specs.Verdicts.{level_over, level_on, row_level, bound_level, farkas_level}
 use Rattle.certs.specs.declared.level.Level.{Level}
 use Rattle.certs.specs.declared.level.Level.TheVariants.{Value, Inf}
 use Rattle.certs.specs.declared.verdict.Verdict.{Verdict}
 use Rattle.certs.specs.declared.verdict.Verdict.TheVariants.{Empty, Misses, Point, Bound}
 use Rattle.certs.specs.declared.cert.Cert.{Cert}
 use Rattle.certs.proofs.TreeLaws.{stayer_box-is}
-use Rattle.node_work.specs.Probes.{Found, EachLive, AreFound, IsGoodVerdict, IsBestVerdict, IsSolved, lows_of}
-use Rattle.node_work.specs.Choices.{IsChosen, IsWeaker, IsStronger, IsStrongest, IsConcluded, IsPoint, IsKept, ReachesBounds, HasFirst, single_choice, first_choice, choice_by}
+use Rattle.node_work.specs.Probes.{Found, EachLive, AreFound, IsGoodVerdict, IsBestVerdict, lows_of}
+use Rattle.node_work.specs.Choices.{IsChosen, IsWeaker, IsStronger, IsStrongest, IsConcluded, IsKept, ReachesBounds, single_choice, first_choice, choice_by}
 use Rattle.node_work.specs.declared.verdicts.Choice.{Choice}
 use Rattle.node_work.proofs.LiveLists.{each-more, each-map}
 use Rattle.node_work.proofs.LevelOrder.{le_trans, le_same, le_inf}
@@ -102,25 +102,14 @@ strongest_by p vectors part o first second best single c n is a b s e t =
 
 module _ (p : Problem) (box : Box) (cert : Cert) (k : ℕ) where
   -- the replay is empty
-  pub conclude_empty : (now : Box) (level : Level) → Some level ≡ judged (program_at p k) box cert Empty → IsConcluded p box cert k (record { verdict = Empty; level = level }) false now
-  conclude_empty now level e = record {
-    valid = sym e;
-    missed = λ part r m. absurd (not_some part r);
-    single = λ part r s. absurd (not_some part r);
-    best = λ part r. absurd (not_some part (stayer_box-is p box cert (program_at p k) part r));
+  pub conclude_empty : (now : Box) → replay (program_at p k) cert.steps box ≡ None → IsConcluded p box cert k (record { verdict = Empty; level = Inf }) false now
+  conclude_empty now e = record {
+    valid = ap (level_on (program_at p k) cert.vectors Empty) e;
+    missed = λ part r m. refl;
+    single = λ part r s. inl refl;
+    best = λ part r i v a b. le_inf (Value (program_bound (program_at p k) v part));
     feasible = λ q. absurd (cc);
   }
-    where
-      not_some : (part : Box) → replay (program_at p k) cert.steps box ≡ Some part → ⊥
-      not_some part r = let t : Some level ≡ None = e ∙ ap (level_on (program_at p k) cert.vectors Empty) r in absurd (cc)
-
-  -- the replay isn't empty: it is this one
-  pub replay_is : (now : Box) → None ≡ judged (program_at p k) box cert Empty → IfSome (replay (program_at p k) cert.steps box) (λ (b : Box). now ≡ b) → replay (program_at p k) cert.steps box ≡ Some now
-  replay_is now e h = by_replay (replay (program_at p k) cert.steps box) refl h
-    where
-      by_replay : (o : Option Box) → replay (program_at p k) cert.steps box ≡ o → IfSome o (λ (b : Box). now ≡ b) → replay (program_at p k) cert.steps box ≡ Some now
-      by_replay None q i = absurd (let w : ◌≡◌ {A = Option Level} None (Some Inf) = e ∙ ap (level_on (program_at p k) cert.vectors Empty) q in cc)
-      by_replay (Some b) q i = q ∙ ap (λ (c : Box). Some c) (sym i)
 
   -- a row misses it
   pub conclude_missed : (now : Box) (i : ℕ) (c : Choice) → replay (program_at p k) cert.steps box ≡ Some now → row_level (program_at p k) i now ≡ Some Inf → some_row_misses (program_at p k) p.rows now ≡ true → c ≡ record { verdict = Misses i; level = Inf } → IsConcluded p box cert k c false now

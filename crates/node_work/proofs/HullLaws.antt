@@ -1,5 +1,5 @@
 -- The hull of stayers that are open.
-use Rattle.std.specs.Prelude.{◌≡◌, ℕ, zero, suc, ◌<◌, ℤ, ◌≤ℤ◌, List, [], ◌∷◌, ◌++◌, length, Bool, true, false, ◌&&◌, nat_eq, Option, Some, None, refl, ◌⊎◌}
+use Rattle.std.specs.Prelude.{◌≡◌, ℕ, ◌<◌, ℤ, ◌≤ℤ◌, List, [], ◌∷◌, ◌++◌, length, Bool, true, false, nat_eq, Option, Some, None, refl}
 use Rattle.std.specs.Int.{int_min, int_max}
 use Rattle.std.specs.List.{list_any}
 use Rattle.std.proofs.Common.{arith, ap, sym, ◌∙◌, subst, inl, inr, append-nil}
@@ -7,7 +7,7 @@ use Rattle.std.proofs.lemmas.Int.{ints, clamps}
 use Rattle.std.proofs.lemmas.Bool.{and_parts, and_from}
 use Rattle.std.proofs.lemmas.Bool.Decides.{Decides-int_eq}
 use Rattle.int_model.specs.Integers.{int_eq}
-use Rattle.int_model.specs.Boxes.{Box, Interval, hull, is_empty, is_single}
+use Rattle.int_model.specs.Boxes.{Box, hull, is_empty, is_single}
 use Rattle.int_model.proofs.VolumeLaws.{HasPoints, not_empty-points}
 use Rattle.scenario_changes.specs.Problems.{Problem, program_at}
 use Rattle.live_sets.proofs.RisingLists.{In}
@@ -15,7 +15,7 @@ use Rattle.certs.specs.Trees.{stayer_box, stayers_hull}
 use Rattle.certs.specs.declared.cert.Cert.{Cert}
 use Rattle.node_work.specs.Stayers.{IsOpen, AreOpen}
 use Rattle.node_work.proofs.SetLemmas.{in_any}
-use Rattle.node_work.proofs.StayerLemmas.{HullSoFar}
+use Rattle.certs.proofs.StayerLemmas.{HullSoFar}
 
 one_number : (a b c d : ℤ) → a ≤ℤ b → int_min a c ≡ int_max b d → a ≡ b
 one_number a b c d h e = omega (arith, ints, clamps, h, e)

@@ -1,13 +1,13 @@
 -- Lawful settlements by their parts.
-use Rattle.std.specs.Prelude.{◌≡◌, ℕ, suc, ◌+◌, ◌<◌, ℤ, List, Bool, true, false, ◌&&◌, nat_lt, Option, Some, None, is_some, refl}
+use Rattle.std.specs.Prelude.{◌≡◌, ℕ, suc, ◌+◌, ◌<◌, ℤ, List, Bool, true, ◌&&◌, nat_lt, Option, Some, is_some, refl}
 use Rattle.std.specs.List.{list_all}
 use Rattle.std.proofs.Common.{arith, ap, sym, ◌∙◌, subst}
 use Rattle.std.proofs.lemmas.Bool.{and_from}
 use Rattle.std.proofs.lemmas.Bool.Decides.{nat_tests}
 use Rattle.int_model.specs.Boxes.{Box, below_cut, above_cut}
 use Rattle.scenario_changes.specs.Problems.{Problem}
-use Rattle.certs.specs.Trees.{Place, raised, cert_fits, is_live, is_rising, stayers_hull, splits_inside, kept, two_places}
-use Rattle.bb_core.specs.Settlements.{Work, Settlement, Outcome, Close, Branch, IsLawful, place_of}
+use Rattle.certs.specs.Trees.{raised, cert_fits, is_live, is_rising, stayers_hull, splits_inside, kept, two_places}
+use Rattle.bb_core.specs.Settlements.{Work, Outcome, Close, Branch, IsLawful, place_of}
 use Rattle.certs.specs.Trees.{of_live}
 use Rattle.certs.specs.declared.cert.Cert.{Cert}
 use Rattle.certs.specs.declared.verdict.Verdict.{Verdict}

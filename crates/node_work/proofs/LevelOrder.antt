@@ -1,6 +1,6 @@
 -- The order of levels.
-use Rattle.std.specs.Prelude.{◌≡◌, ℤ, ◌≤ℤ◌, int_le, Bool, true, false, cond, refl, ◌⊎◌}
-use Rattle.std.proofs.Common.{arith, ap, sym, ◌∙◌, inl, inr}
+use Rattle.std.specs.Prelude.{◌≡◌, ℤ, int_le, Bool, true, false, cond, refl}
+use Rattle.std.proofs.Common.{arith}
 use Rattle.std.proofs.lemmas.Int.{ints}
 use Rattle.certs.specs.Levels.{level_le, greater_level}
 use Rattle.certs.specs.declared.level.Level.{Level}

@@ -1,7 +1,4 @@
-pub mod LevelLists
-pub mod RaiseLaws
 pub mod SetLemmas
-pub mod StayerLemmas
 pub mod LawfulLaws
 pub mod LiveLists
 pub mod LevelOrder
@@ -15,3 +12,4 @@ pub mod HullLaws
 pub mod MadeLaws
 pub mod OutcomeLaws
 pub mod TotalLaws
+pub mod ReachedLaws

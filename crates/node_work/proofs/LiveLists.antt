@@ -1,16 +1,15 @@
 -- Verdicts of the live scenarios, one after another.
-use Rattle.std.specs.Prelude.{◌≡◌, ℕ, zero, suc, ◌+◌, ◌<◌, ◌≤◌, List, [], ◌∷◌, ◌++◌, length, slice_get, slice_index_or, Bool, true, false, cond, ◌||◌, nat_eq, Option, Some, None, option_map, All, Contains, refl}
-use Rattle.std.specs.List.{list_any, list_all}
+use Rattle.std.specs.Prelude.{◌≡◌, ℕ, zero, suc, ◌+◌, ◌<◌, ◌≤◌, List, [], ◌∷◌, ◌++◌, length, slice_get, slice_index_or, Bool, true, false, cond, ◌||◌, nat_eq, Option, Some, None, option_map, All, refl}
+use Rattle.std.specs.List.{list_any}
 use Rattle.std.specs.List.Sorted.{IsStrictlyIncreasing}
 use Rattle.std.proofs.Common.{arith, ap, sym, ◌∙◌, subst, inl, inr}
-use Rattle.std.proofs.lemmas.Bool.{and_from}
 use Rattle.std.proofs.lemmas.Bool.Decides.{nat_tests}
 use native.Mathlib.Numerals.{unary_clauses}
 use Rattle.int_model.specs.Boxes.{Box}
 use Rattle.int_model.specs.Programs.{Program}
 use Rattle.scenario_changes.specs.Problems.{Problem, program_at}
-use Rattle.live_sets.specs.Members.{IsLiveList, with_member}
-use Rattle.live_sets.proofs.RisingLists.{In, Rises, in_rising, rises_lower}
+use Rattle.live_sets.specs.Members.{IsLiveList}
+use Rattle.live_sets.proofs.RisingLists.{In, Rises, in_rising}
 use Rattle.certs.specs.Levels.{greater_level}
 use Rattle.certs.specs.Trees.{raised}
 use Rattle.certs.specs.Verdicts.{judged}
@@ -19,7 +18,7 @@ use Rattle.certs.specs.declared.verdict.Verdict.{Verdict}
 use Rattle.certs.specs.declared.cert.Cert.{Cert}
 use Rattle.certs.specs.Trees.{of_live}
 use Rattle.node_work.specs.Probes.{Found, EachLive, IsGoodVerdict}
-use Rattle.node_work.proofs.SetLemmas.{any_in, in_any}
+use Rattle.node_work.proofs.SetLemmas.{any_in}
 
 -- ---- one more, and another fact
 

@@ -6,7 +6,7 @@ use Rattle.certs.specs.Trees.{kept}
 use Rattle.certs.specs.declared.level.Level.{Level}
 use Rattle.certs.specs.Trees.{of_live}
 use Rattle.node_work.specs.Stayers.{is_below, undercuts}
-use Rattle.node_work.proofs.LevelLists.{live_at, live_kept, kept_none, kept_some}
+use Rattle.certs.proofs.LevelLists.{live_at, live_kept, kept_none, kept_some}
 
 last_or_less : (m k : ℕ) → m < k + 1 → (m ≡ k) ⊎ (m < k)
 last_or_less zero zero h = inl refl

@@ -1,6 +1,6 @@
 -- What becomes of a node with a good probe.
-use Rattle.std.specs.Prelude.{◌≡◌, ◌↔◌, ℕ, ◌<◌, List, [], length, Bool, true, false, Option, Some, None, IsTrue, Contains, All, refl}
-use Rattle.std.proofs.Common.{arith, ap, sym, ◌∙◌, subst}
+use Rattle.std.specs.Prelude.{◌≡◌, ℕ, ◌<◌, List, length, Bool, true, false, Option, Some, None, All, refl}
+use Rattle.std.proofs.Common.{sym, ◌∙◌, subst}
 use Rattle.int_model.specs.Boxes.{Box}
 use Rattle.live_sets.specs.Members.{IsLiveList}
 use Rattle.scenario_changes.specs.Problems.{Problem}

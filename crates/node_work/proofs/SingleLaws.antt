@@ -1,16 +1,16 @@
 -- A replay lies in the scenario's bounds, and where it is single and no row misses it, its point is feasible.
-use Rattle.std.specs.Prelude.{◌≡◌, ℕ, zero, suc, ◌<◌, ℤ, pos, ◌*ℤ◌, ◌≤ℤ◌, List, [], ◌∷◌, length, map, slice_index_or, Bool, true, false, cond, ◌||◌, ◌&&◌, Option, Some, None, IfSome, refl, ◌⊎◌}
+use Rattle.std.specs.Prelude.{◌≡◌, ℕ, zero, suc, ◌<◌, ℤ, ◌*ℤ◌, ◌≤ℤ◌, List, [], ◌∷◌, length, slice_index_or, Bool, true, false, ◌||◌, ◌&&◌, Option, Some, None, IfSome, refl, ◌⊎◌}
 use Rattle.std.specs.Int.{int_min, int_max}
 use Rattle.std.proofs.Common.{arith, ap, sym, ◌∙◌, subst, inl, inr}
 use Rattle.std.proofs.lemmas.Int.{ints, clamps}
 use Rattle.std.proofs.lemmas.Bool.Decides.{Decides-int_eq}
 use Rattle.int_model.specs.Integers.{int_at, int_eq}
-use Rattle.int_model.specs.Boxes.{Box, Interval, InBox, interval_at, is_empty, is_single, meet}
+use Rattle.int_model.specs.Boxes.{Box, Interval, InBox, interval_at, is_single, meet}
 use Rattle.int_model.specs.Programs.{Program, Terms, Feasible, MeetsRows, IsBetween, row_sum}
 use Rattle.int_model.specs.RowSums.{least_product, greatest_product, least_sum, greatest_sum, is_above, is_below, misses_ends, row_misses}
 use Rattle.int_model.specs.declared.model.Ends.{Ends}
 use Rattle.int_model.proofs.BoxLaws.{tells-points}
-use Rattle.int_model.proofs.VolumeLaws.{HasPoints, points-not_empty}
+use Rattle.int_model.proofs.VolumeLaws.{points-not_empty}
 use Rattle.tighten.specs.Replay.{replay, replayed}
 use Rattle.tighten.specs.declared.step.Step.{Step}
 use Rattle.scenario_changes.specs.Problems.{Problem, IsWithin}

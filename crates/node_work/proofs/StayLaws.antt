@@ -1,28 +1,27 @@
 -- A scenario that stays is open: its replay has more than one point, and no row misses it.
-use Rattle.std.specs.Prelude.{◌≡◌, ◌↔◌, ℕ, zero, suc, ◌+◌, ◌<◌, ℤ, List, [], ◌∷◌, length, slice_get, slice_index_or, Bool, true, false, cond, not, ◌||◌, nat_eq, is_some, Option, Some, None, option_and_then, IsTrue, Contains, refl, ◌⊎◌}
+use Rattle.std.specs.Prelude.{◌≡◌, ◌↔◌, ℕ, zero, suc, ◌+◌, ◌<◌, ℤ, List, [], ◌∷◌, length, slice_get, slice_index_or, Bool, true, false, cond, not, nat_eq, is_some, Option, Some, None, option_and_then, IsTrue, Contains, refl}
 use Rattle.std.specs.List.{list_any, list_all}
 use Rattle.std.proofs.Common.{arith, ap, sym, ◌∙◌, subst, inl, inr}
 use Rattle.std.proofs.lemmas.Bool.{and_from}
-use Rattle.std.proofs.lemmas.Bool.Decides.{nat_tests}
 use Rattle.int_model.specs.Boxes.{Box, is_single}
-use Rattle.int_model.specs.Programs.{Program, value}
+use Rattle.int_model.specs.Programs.{value}
 use Rattle.tighten.specs.Replay.{replay}
 use Rattle.scenario_changes.specs.Problems.{Problem, program_at}
 use Rattle.certs.specs.Levels.{level_le, cap_level, greater_level}
-use Rattle.certs.specs.Trees.{raised, unmissed, some_row_misses, stayer_box, is_live}
-use Rattle.certs.specs.Verdicts.{judged, level_on, empty_level}
+use Rattle.certs.specs.Trees.{raised, unmissed, some_row_misses, is_live}
+use Rattle.certs.specs.Verdicts.{level_on, empty_level}
 use Rattle.certs.specs.declared.level.Level.{Level}
 use Rattle.certs.specs.declared.level.Level.TheVariants.{Value, Inf}
 use Rattle.certs.specs.declared.verdict.Verdict.{Verdict}
 use Rattle.certs.specs.declared.verdict.Verdict.TheVariants.{Empty, Misses, Farkas, Bound, Point}
 use Rattle.certs.specs.declared.cert.Cert.{Cert}
-use Rattle.live_sets.proofs.RisingLists.{In, in-Contains, Contains-in}
+use Rattle.live_sets.proofs.RisingLists.{Contains-in}
 use Rattle.bb_core.specs.Settlements.{Work, place_of}
 use Rattle.certs.specs.Trees.{of_live}
 use Rattle.node_work.specs.Probes.{Found, IsGoodVerdict, IsSolved, lows_of}
 use Rattle.node_work.specs.Stayers.{is_below, undercuts, AreStayers, CutsAreReached, IsOpen, AreOpen}
 use Rattle.node_work.proofs.LevelOrder.{le_trans, le_inf, le_greater}
-use Rattle.node_work.proofs.LevelLists.{live_at}
+use Rattle.certs.proofs.LevelLists.{live_at}
 use Rattle.node_work.proofs.LiveLists.{IsRaisedBy, ComesFrom}
 use Rattle.node_work.proofs.SetLemmas.{any_in, in_any}
 

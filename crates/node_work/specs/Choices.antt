@@ -10,7 +10,6 @@ use Rattle.certs.specs.Trees.{some_row_misses, stayer_box}
 use Rattle.certs.specs.Verdicts.{AllRowsBelow, judged, level_over, bound_level, farkas_level}
 use Rattle.certs.specs.declared.level.Level.{Level}
 use Rattle.certs.specs.declared.level.Level.TheVariants.{Value, Inf}
-use Rattle.certs.specs.declared.verdict.Verdict.{Verdict}
 use Rattle.certs.specs.declared.verdict.Verdict.TheVariants.{Point, Bound, Farkas}
 use Rattle.certs.specs.declared.cert.Cert.{Cert}
 use Rattle.node_work.specs.Probes.{Found, IsAscent, lows_of}

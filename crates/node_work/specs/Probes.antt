@@ -1,7 +1,7 @@
 -- What a probe of a node tells.
-use Rattle.std.specs.Prelude.{◌≡◌, ℕ, ◌<◌, ◌^◌, ℤ, ◌≤ℤ◌, true, false, List, [], ◌∷◌, length, map, slice_get, Option, Some, None, IsTrue, ◌⊎◌}
+use Rattle.std.specs.Prelude.{◌≡◌, ℕ, ◌<◌, ℤ, ◌≤ℤ◌, true, List, [], ◌∷◌, map, slice_get, Option, Some, None, IsTrue, ◌⊎◌}
 use Rattle.int_model.specs.Boxes.{Box, Interval, is_single}
-use Rattle.int_model.specs.Programs.{Program, Feasible, value}
+use Rattle.int_model.specs.Programs.{Feasible, value}
 use Rattle.tighten.specs.Replay.{replay}
 use Rattle.dual_bounds.specs.Vectors.{Multipliers, program_bound}
 use Rattle.dual_search.specs.Totals.{total, IsAscended}

@@ -36,7 +36,6 @@ fn first_candidate(
 ) -> Result<(Vector, Option<Climb>), AllocError>
     requires columns { length (arc_value work.now.bounds) ≡ length problem.now.model.columns }
     requires steps { All (IsStep problem.now.model) cert.now.steps }
-    requires vectors { AllRowsBelow (length problem.now.model.rows) cert.now.vectors }
     ensures scale { IfOk result (λ r. r.0.scale ≡ 4096) }
     ensures rows { IfOk result (λ r. RowsBelow (length problem.now.model.rows) r.0.entries) }
 {
@@ -77,7 +76,7 @@ fn ray_of(
         return Ok(None);
     };
     let ray = without_scale(alloc, vector)?;
-    let shows = standings.raise_by(alloc, problem, remaining, &ray)?;
+    let shows = standings.raise_by(problem, remaining, &ray);
     if shows { Ok(Some(ray)) } else { Ok(None) }
 }
 
@@ -94,7 +93,6 @@ fn second_vector(
 ) -> Result<(Option<Vector>, Option<Climb>), AllocError>
     requires bounds { length (arc_value work.now.bounds) ≡ length problem.now.model.columns }
     requires steps { All (IsStep problem.now.model) cert.now.steps }
-    requires vectors { AllRowsBelow (length problem.now.model.rows) cert.now.vectors }
     requires columns { All (λ b. length b ≡ length problem.now.model.columns) remaining.now.boxes.items }
     requires made { AllRowsBelow (length problem.now.model.rows) made.now }
     ensures { IfOk result (λ r. IfSome r.0 (λ v. RowsBelow (length problem.now.model.rows) v.entries)) }
@@ -104,7 +102,7 @@ fn second_vector(
     }
     match climb_next(alloc, problem, work, cert, standings, made, Some(first))? {
         Some((vector, climb)) => {
-            standings.raise_by(alloc, problem, remaining, &vector)?;
+            standings.raise_by(problem, remaining, &vector);
             Ok((Some(vector), Some(climb)))
         }
         None => Ok((None, None)),
@@ -124,7 +122,6 @@ fn more_of(
 ) -> Result<(Option<Vector>, Option<Climb>), AllocError>
     requires bounds { length (arc_value work.now.bounds) ≡ length problem.now.model.columns }
     requires steps { All (IsStep problem.now.model) cert.now.steps }
-    requires vectors { AllRowsBelow (length problem.now.model.rows) cert.now.vectors }
     requires columns { All (λ b. length b ≡ length problem.now.model.columns) remaining.now.boxes.items }
     requires made { AllRowsBelow (length problem.now.model.rows) made.now }
     ensures { IfOk result (λ r. IfSome r.0 (λ v. RowsBelow (length problem.now.model.rows) v.entries)) }
@@ -162,7 +159,6 @@ pub(crate) fn bound_all(
 ) -> Result<Bounding, AllocError>
     requires bounds { length (arc_value work.now.bounds) ≡ length problem.now.model.columns }
     requires steps { All (IsStep problem.now.model) cert.now.steps }
-    requires vectors { AllRowsBelow (length problem.now.model.rows) cert.now.vectors }
     requires count { length remaining.now.boxes.items ≡ length remaining.now.scenarios }
     requires scenarios { All (λ s. s < length (posed problem.now).scenarios) remaining.now.scenarios }
     requires columns { All (λ b. length b ≡ length problem.now.model.columns) remaining.now.boxes.items }
@@ -170,7 +166,7 @@ pub(crate) fn bound_all(
 {
     let (candidate, first) = first_candidate(alloc, problem, work, cert, standings)?;
     let vector = first_vector(alloc, problem, remaining, candidate)?;
-    standings.raise_by(alloc, problem, remaining, &vector)?;
+    standings.raise_by(problem, remaining, &vector);
     let mut vectors = Vectors::new(alloc);
     vectors.push(vector);
     let (more, second) = more_of(

@@ -10,9 +10,8 @@ ghost use Rattle.certs.specs.Verdicts.{AllRowsBelow};
 use crate::multipliers::without_entries;
 use crate::standings::{Aim, Standings};
 use crate::starts::better_start;
-use crate::stayers::is_stayer;
 use bb_core::Work;
-use certs::{Cert, Vectors};
+use certs::{Cert, Vectors, is_stayer};
 use dual_bounds::Vector;
 use dual_climb::climb;
 use int_model::{NearPoint, PointBox};
@@ -108,7 +107,6 @@ pub(crate) fn climb_next(
 ) -> Result<Option<(Vector, Climb)>, AllocError>
     requires columns { length (arc_value work.now.bounds) ≡ length problem.now.model.columns }
     requires steps { All (IsStep problem.now.model) cert.now.steps }
-    requires vectors { AllRowsBelow (length problem.now.model.rows) cert.now.vectors }
     ensures scale { IfOk result (λ o. IfSome o (λ r. r.0.scale ≡ 4096)) }
     ensures rows { IfOk result (λ o. IfSome o (λ r. RowsBelow (length problem.now.model.rows) r.0.entries)) }
 {

@@ -1,25 +1,23 @@
 // What becomes of a node.
-ghost use Rattle.std.specs.Prelude.{◌≡◌, ◌≢◌, ◌<◌, ◌≤◌, ℕ, [], None, Some, true, false, length, slice_index_or, nat_eq, All, IfOk};
+ghost use Rattle.std.specs.Prelude.{◌≡◌, ◌≢◌, ◌<◌, ◌≤◌, ℕ, [], None, Some, true, false, length, vec_capacity, slice_index_or, nat_eq, All, IfOk};
 ghost use Rattle.std.specs.Arc.{arc_value};
 ghost use Rattle.std.specs.List.{list_any};
 ghost use Rattle.int_model.specs.Boxes.{interval_at, is_empty, is_single};
 ghost use Rattle.tighten.specs.Steps.{IsStep};
 ghost use Rattle.scenario_changes.specs.Problems.{problem as posed};
-ghost use Rattle.certs.specs.Trees.{splits_inside};
+ghost use Rattle.certs.specs.Trees.{raised, splits_inside};
 ghost use Rattle.certs.specs.Verdicts.{AllRowsBelow};
-ghost use Rattle.bb_core.specs.Settlements.{IsLawful};
+ghost use Rattle.bb_core.specs.Settlements.{IsLawful, place_of};
 ghost use Rattle.bb_core.specs.Shared.{outcome_of, settlement_of, stay_of, work_of};
 ghost use Rattle.node_work.specs.Branches.{IsSplit};
 ghost use Rattle.node_work.specs.Probes.{IsGoodProbe};
 ghost use Rattle.node_work.specs.Stayers.{AreOpen, AreStayers, CutsAreReached};
 
 use crate::Probe;
-use crate::judging::raise;
-use crate::levels::children_levels;
-use crate::stayers::{hull_stayers, rising, stayers};
+use crate::stayers::{hull_stayers, stayers};
 use bb_core::{Hint, Outcome, Settlement, Work};
 use branching::{Branch, choose};
-use certs::{Cert, Level, Levels};
+use certs::{Cert, Level, Levels, Verdicts, children_levels, raise, rising};
 use int_model::PointBox;
 use live_sets::LiveSet;
 use scenario_changes::Problem;
@@ -125,6 +123,37 @@ fn split(
     })
 }
 
+// Puts the raised levels of the work's live scenarios into the list. False where a verdict isn't valid, is
+// missing or is one too many.
+fn raise_levels(
+    problem: &Problem,
+    work: &Work,
+    cert: &Cert,
+    verdicts: &Verdicts,
+    out: &mut Vec<Option<Level>>,
+    scratch: &mut PointBox,
+) -> bool
+    requires room { length (posed problem.now).scenarios ≤ vec_capacity out.old }
+    requires columns { length (arc_value work.now.bounds) ≡ length problem.now.model.columns }
+    requires steps { All (IsStep problem.now.model) cert.now.steps }
+    requires vectors { AllRowsBelow (length problem.now.model.rows) cert.now.vectors }
+    requires scratch { length scratch.old ≡ length problem.now.model.columns }
+    ensures yes { result ≡ true → raised (arc_value work.now.bounds) cert.now (posed problem.now).scenarios (place_of (work_of work.now)).levels verdicts.now ≡ Some out.new.items }
+    ensures many { result ≡ true → length out.new.items ≡ length (posed problem.now).scenarios }
+    ensures no { result ≡ false → raised (arc_value work.now.bounds) cert.now (posed problem.now).scenarios (place_of (work_of work.now)).levels verdicts.now ≡ None }
+{
+    raise(
+        problem,
+        &work.bounds,
+        work.live,
+        &work.levels,
+        cert,
+        verdicts,
+        out,
+        scratch,
+    )
+}
+
 // What becomes of a node that was probed.
 fn outcome(
     alloc: Global,
@@ -147,7 +176,7 @@ fn outcome(
     let _members = work.live.iter();
     let mut raised = Vec::with_capacity(alloc, problem.count() as usize)?;
     let mut replay = work.bounds.copy(alloc)?;
-    let _is_valid = raise(
+    let _is_valid = raise_levels(
         problem,
         work,
         &probe.cert,

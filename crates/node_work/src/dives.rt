@@ -11,9 +11,8 @@ ghost use Rattle.node_work.specs.Choices.{IsKept};
 
 use crate::climbs::Climb;
 use crate::standings::Standings;
-use crate::stayers::is_stayer;
 use bb_core::Work;
-use certs::Cert;
+use certs::{Cert, is_stayer};
 use dive::{Dive, dive, dive_near};
 use int_model::{NearPoint, Point, PointBox};
 use live_sets::LiveSet;
@@ -120,7 +119,6 @@ fn dive_for(
     requires live { All (λ s. s < length (posed problem.now).scenarios) work.now.live }
     requires columns { length (arc_value work.now.bounds) ≡ length problem.now.model.columns }
     requires steps { All (IsStep problem.now.model) cert.now.steps }
-    requires vectors { AllRowsBelow (length problem.now.model.rows) cert.now.vectors }
     requires scenario { s < length (posed problem.now).scenarios }
     requires found { AreFound (posed problem.now) found.old.items }
     ensures { OnOk result (AreFound (posed problem.now) found.new.items) }
@@ -150,7 +148,6 @@ fn dive_if_wanted(
     requires live { All (λ s. s < length (posed problem.now).scenarios) work.now.live }
     requires columns { length (arc_value work.now.bounds) ≡ length problem.now.model.columns }
     requires steps { All (IsStep problem.now.model) cert.now.steps }
-    requires vectors { AllRowsBelow (length problem.now.model.rows) cert.now.vectors }
     requires scenario { s < length (posed problem.now).scenarios }
     requires found { AreFound (posed problem.now) found.old.items }
     ensures { OnOk result (AreFound (posed problem.now) found.new.items) }
@@ -174,7 +171,6 @@ pub(crate) fn dive_open(
     requires live { All (λ s. s < length (posed problem.now).scenarios) work.now.live }
     requires columns { length (arc_value work.now.bounds) ≡ length problem.now.model.columns }
     requires steps { All (IsStep problem.now.model) cert.now.steps }
-    requires vectors { AllRowsBelow (length problem.now.model.rows) cert.now.vectors }
     ensures { IfOk result (λ found. AreFound (posed problem.now) found.items) }
 {
     let mut found = Vec::new(alloc);

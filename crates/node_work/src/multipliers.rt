@@ -1,12 +1,13 @@
 // Vectors of multipliers for the scenarios that remain.
 ghost use Rattle.std.specs.Prelude.{◌≡◌, ◌<◌, ◌≤◌, ◌^◌, length, unsigned_abs, All, IfOk};
 ghost use Rattle.scenario_changes.specs.Problems.{problem as posed, program_at};
+ghost use Rattle.dual_bounds.specs.Shared.{AreShares};
 ghost use Rattle.dual_bounds.specs.Vectors.{RowsBelow, program_sum};
 ghost use Rattle.dual_search.specs.Totals.{total};
 ghost use Rattle.node_work.specs.Probes.{IsAscent, no_entries};
 
 use crate::remaining::Remaining;
-use dual_bounds::{Vector, evaluate};
+use dual_bounds::{Shares, Vector, evaluate_with};
 use dual_search::search;
 use int_model::PointBox;
 use scenario_changes::Problem;
@@ -26,14 +27,22 @@ pub(crate) fn without_entries(alloc: Global) -> Result<Vector, AllocError>
 }
 
 /// The sum of a vector for a scenario in a box.
-pub(crate) fn sum_of(problem: &Problem, s: u32, part: &PointBox, vector: &Vector) -> i128
+pub(crate) fn sum_of(
+    problem: &Problem,
+    s: u32,
+    part: &PointBox,
+    vector: &Vector,
+    shares: &Shares,
+) -> i128
+    requires shares { AreShares problem.now.model vector.now.entries shares.now }
     requires scenario { s < length (posed problem.now).scenarios }
     requires columns { length part.now ≡ length problem.now.model.columns }
     requires rows { RowsBelow (length problem.now.model.rows) vector.now.entries }
     ensures value { result ≡ program_sum (program_at (posed problem.now) s) vector.now part.now }
     ensures limit { unsigned_abs result ≤ 2 ^ 115 }
 {
-    evaluate(
+    evaluate_with(
+        shares,
         problem.model(),
         problem.costs(s),
         problem.ends(s),
@@ -51,10 +60,11 @@ fn total_of(problem: &Problem, remaining: &Remaining, vector: &Vector) -> i128
     ensures { result ≡ total (posed problem.now) remaining.now.scenarios remaining.now.boxes.items vector.now }
 {
     let _few = remaining.scenarios.count();
+    let shares = Shares::of(problem.model(), vector);
     let mut sum = 0;
     let mut k = 0;
     for s in remaining.scenarios.iter() {
-        sum += sum_of(problem, s, &remaining.boxes[k], vector);
+        sum += sum_of(problem, s, &remaining.boxes[k], vector, &shares);
         k += 1;
     }
     sum

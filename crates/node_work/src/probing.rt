@@ -24,6 +24,7 @@ use std::alloc::{AllocError, Global};
 /// The probe is a good one. Over the scenarios whose replay isn't empty and that no row misses, the total
 /// of its first vector is at least that of the vector without entries, and greater where some neighbour of
 /// that has a greater one. The level of the verdict of each of them is at least the bound of each vector.
+#[inline(never)]
 pub fn probe(alloc: Global, problem: &Problem, work: &Work) -> Result<Probe, AllocError>
     requires columns { length (arc_value work.now.bounds) ≡ length problem.now.model.columns }
     requires live { All (λ s. s < length (posed problem.now).scenarios) work.now.live }

@@ -5,8 +5,7 @@ ghost use Rattle.scenario_changes.specs.Problems.{problem as posed};
 ghost use Rattle.certs.specs.Verdicts.{AllRowsBelow};
 ghost use Rattle.node_work.specs.Probes.{remaining, scenarios_of, boxes_of};
 
-use crate::stayers::is_stayer;
-use certs::Cert;
+use certs::{Cert, is_stayer};
 use int_model::PointBox;
 use live_sets::LiveSet;
 use scenario_changes::Problem;
@@ -31,7 +30,6 @@ impl Remaining {
         requires live { All (λ s. s < length (posed problem.now).scenarios) live }
         requires columns { length bounds.now ≡ length problem.now.model.columns }
         requires steps { All (IsStep problem.now.model) cert.now.steps }
-        requires vectors { AllRowsBelow (length problem.now.model.rows) cert.now.vectors }
         ensures scenarios { IfOk result (λ r. r.scenarios ≡ scenarios_of (remaining (posed problem.now) bounds.now cert.now live)) }
         ensures boxes { IfOk result (λ r. r.boxes.items ≡ boxes_of (remaining (posed problem.now) bounds.now cert.now live)) }
         ensures count { IfOk result (λ r. length r.boxes.items ≡ length r.scenarios) }

@@ -3,11 +3,11 @@ ghost use Rattle.std.specs.Prelude.{◌≡◌, ◌<◌, length, IfSome, All};
 ghost use Rattle.scenario_changes.specs.Problems.{problem as posed};
 ghost use Rattle.dual_bounds.specs.Vectors.{RowsBelow};
 
-use crate::estimates::Estimate;
 use crate::remaining::Remaining;
+use crate::verdicts::shown_level;
 use bb_core::Work;
 use certs::Level;
-use dual_bounds::Vector;
+use dual_bounds::{Shares, Vector};
 use int_model::Point;
 use scenario_changes::Problem;
 use std::alloc::{AllocError, Global};
@@ -192,21 +192,26 @@ impl Standings {
     /// something of one.
     pub(crate) fn raise_by(
         &mut self,
-        alloc: Global,
         problem: &Problem,
         remaining: &Remaining,
         vector: &Vector,
-    ) -> Result<bool, AllocError>
+    ) -> bool
         requires columns { All (λ b. length b ≡ length problem.now.model.columns) remaining.now.boxes.items }
         requires rows { RowsBelow (length problem.now.model.rows) vector.now.entries }
     {
-        let estimate = Estimate::new(alloc, problem, vector)?;
+        let shares = Shares::of(problem.model(), vector);
         let mut shows = false;
         let mut k = 0;
         for s in 0..problem.count() {
             if remaining.scenarios.contains(s) && k < remaining.boxes.len() {
                 if self.is_open(s) {
-                    if let Some(level) = estimate.level(problem, s, &remaining.boxes[k], vector) {
+                    if let Some(level) = shown_level(
+                        problem,
+                        s,
+                        &remaining.boxes[k],
+                        vector,
+                        &shares,
+                    ) {
                         self.raise(s, level);
                         shows = true;
                     }
@@ -214,6 +219,6 @@ impl Standings {
                 k += 1;
             }
         }
-        Ok(shows)
+        shows
     }
 }

@@ -7,7 +7,7 @@ ghost use Rattle.certs.specs.Trees.{vector_within};
 use crate::multipliers::{SCALE, sum_of, without_entries};
 use bb_core::Work;
 use certs::Vectors;
-use dual_bounds::Vector;
+use dual_bounds::{Shares, Vector};
 use int_model::PointBox;
 use scenario_changes::Problem;
 use std::alloc::{AllocError, Global};
@@ -48,7 +48,8 @@ fn fit_sum(problem: &Problem, s: u32, part: &PointBox, vector: &Vector) -> Optio
     ensures { IfSome result (λ sum. vector.now.scale ≡ 4096) }
 {
     if is_fit(problem, vector) {
-        Some(sum_of(problem, s, part, vector))
+        let shares = Shares::of(problem.model(), vector);
+        Some(sum_of(problem, s, part, vector, &shares))
     } else {
         None
     }

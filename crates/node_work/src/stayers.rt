@@ -11,25 +11,10 @@ ghost use Rattle.certs.specs.Verdicts.{AllRowsBelow};
 ghost use Rattle.node_work.specs.Stayers.{AreOpen, undercuts};
 ghost use Rattle.node_work.specs.Stayers as spec;
 
-use activity::misses;
-use certs::{Cert, Level, Verdict, judge};
+use certs::{Cert, Level, is_stayer};
 use int_model::PointBox;
 use live_sets::LiveSet;
 use scenario_changes::Problem;
-
-/// Whether a number is a member of a set.
-pub(crate) fn is_member(set: LiveSet, k: u32) -> bool
-    ensures { result ≡ list_any (nat_eq k) set }
-{
-    set.contains(k)
-}
-
-/// A set is seen as a rising list.
-pub(crate) fn rising(set: LiveSet)
-    ensures { is_rising set ≡ true }
-{
-    let _members = set.iter();
-}
 
 // Whether there is a level that is below the cut.
 fn is_below(cut: Option<i64>, level: Option<Level>) -> bool
@@ -56,52 +41,6 @@ pub(crate) fn stayers(raised: &[Option<Level>], cuts: &[Option<i64>]) -> LiveSet
     stay
 }
 
-/// The first row of a scenario that misses the box.
-pub(crate) fn missed_row(problem: &Problem, s: u32, part: &PointBox) -> Option<u32>
-    requires scenario { s < length (problems.problem problem.now).scenarios }
-    requires columns { length part.now ≡ length problem.now.model.columns }
-    ensures some { IfSome result (λ i. row_misses (program_at (problems.problem problem.now) s) i part.now ≡ true) }
-    ensures missed { IfSome result (λ i. some_row_misses (program_at (problems.problem problem.now) s) (length problem.now.model.rows) part.now ≡ true) }
-    ensures none { result ≡ None → some_row_misses (program_at (problems.problem problem.now) s) (length problem.now.model.rows) part.now ≡ false }
-{
-    let _limits = problem.costs(s);
-    let model = problem.model();
-    let _columns = model.columns();
-    let ends = problem.ends(s);
-    for i in 0..model.rows() {
-        let row = model.row(i);
-        if misses(row.terms.as_slice(), ends[i as usize], part) {
-            return Some(i);
-        }
-    }
-    None
-}
-
-/// Whether a scenario's replay isn't empty and no row misses it. It is then in the box.
-pub(crate) fn is_stayer(
-    problem: &Problem,
-    s: u32,
-    bounds: &PointBox,
-    cert: &Cert,
-    part: &mut PointBox,
-) -> bool
-    requires scenario { s < length (problems.problem problem.now).scenarios }
-    requires columns { length bounds.now ≡ length problem.now.model.columns }
-    requires steps { All (IsStep problem.now.model) cert.now.steps }
-    requires vectors { AllRowsBelow (length problem.now.model.rows) cert.now.vectors }
-    requires part { length part.old ≡ length problem.now.model.columns }
-    ensures yes { result ≡ true → stayer_box (problems.problem problem.now) bounds.now cert.now (program_at (problems.problem problem.now) s) ≡ Some part.new }
-    ensures no { result ≡ false → stayer_box (problems.problem problem.now) bounds.now cert.now (program_at (problems.problem problem.now) s) ≡ None }
-    ensures occupied { result ≡ true → is_empty part.new ≡ false }
-    ensures count { length part.new ≡ length problem.now.model.columns }
-{
-    let _limits = problem.costs(s);
-    match judge(problem, s, bounds, cert, Verdict::Empty, part) {
-        Some(_) => false,
-        None => missed_row(problem, s, part).is_none(),
-    }
-}
-
 /// Puts the hull of the replays of the stayers, of which there are some, into the box.
 pub(crate) fn hull_stayers(
     problem: &Problem,
@@ -113,7 +52,6 @@ pub(crate) fn hull_stayers(
 )
     requires columns { length bounds.now ≡ length problem.now.model.columns }
     requires steps { All (IsStep problem.now.model) cert.now.steps }
-    requires vectors { AllRowsBelow (length problem.now.model.rows) cert.now.vectors }
     requires some { stay ≢ [] }
     requires open { AreOpen (problems.problem problem.now) bounds.now cert.now stay }
     requires hull { length hull.old ≡ length problem.now.model.columns }

@@ -4,10 +4,12 @@ ghost use Rattle.int_model.specs.Boxes.{Box, is_single};
 ghost use Rattle.int_model.specs.Programs.{Feasible, value};
 ghost use Rattle.tighten.specs.Steps.{IsStep};
 ghost use Rattle.tighten.specs.Replay.{replay};
+ghost use Rattle.dual_bounds.specs.Shared.{AreShares};
 ghost use Rattle.dual_bounds.specs.Vectors.{Multipliers, RowsBelow, program_bound};
 ghost use Rattle.scenario_changes.specs.Problems.{program_at, problem as posed};
 ghost use Rattle.certs.specs.Levels.{level_le};
 ghost use Rattle.certs.specs.Trees.{stayer_box};
+ghost use Rattle.certs.specs.Shared.{HaveShares};
 ghost use Rattle.certs.specs.Verdicts.{AllRowsBelow};
 ghost use Rattle.certs.specs.Verdicts as levels;
 ghost use Rattle.certs.specs.declared.level.Level.TheVariants.{Value};
@@ -16,9 +18,11 @@ ghost use Rattle.node_work.specs.Probes.{EachLive, Found, AreFound, IsGoodVerdic
 ghost use Rattle.node_work.specs.Choices.{IsChosen, IsStrongest, IsConcluded, HasFirst, IsStronger};
 ghost use Rattle.node_work.specs.Choices as spec;
 
-use crate::stayers::missed_row;
-use certs::{Cert, Level, Vectors, Verdict, Verdicts, judge};
-use dual_bounds::{Vector, bound, evaluate};
+use certs::{
+    Cert, Level, VectorShares, Vectors, Verdict, Verdicts, bound_level, farkas_level, missed_row,
+    replay_at,
+};
+use dual_bounds::{Shares, Vector};
 use int_model::{Point, PointBox};
 use live_sets::LiveSet;
 use scenario_changes::Problem;
@@ -31,66 +35,35 @@ pub(crate) struct Choice {
     pub(crate) level: Level,
 }
 
-// The level of a vector whose scale is 0, None where its sum isn't positive.
-fn farkas_level(problem: &Problem, s: u32, part: &PointBox, vector: &Vector) -> Option<Level>
-    requires scenario { s < length (posed problem.now).scenarios }
-    requires columns { length part.now ≡ length problem.now.model.columns }
-    requires rows { RowsBelow (length problem.now.model.rows) vector.now.entries }
-    ensures { result ≡ levels.farkas_level (program_at (posed problem.now) s) part.now vector.now }
-{
-    if vector.scale() != 0 {
-        return None;
-    }
-    let sum = evaluate(
-        problem.model(),
-        problem.costs(s),
-        problem.ends(s),
-        vector,
-        part,
-    );
-    if sum > 0 { Some(Level::Inf) } else { None }
-}
-
-// The bound of a vector, None where its scale is 0.
-fn bound_level(problem: &Problem, s: u32, part: &PointBox, vector: &Vector) -> Option<Level>
-    requires scenario { s < length (posed problem.now).scenarios }
-    requires columns { length part.now ≡ length problem.now.model.columns }
-    requires rows { RowsBelow (length problem.now.model.rows) vector.now.entries }
-    ensures { result ≡ levels.bound_level (program_at (posed problem.now) s) part.now vector.now }
-{
-    if vector.scale() == 0 {
-        return None;
-    }
-    let value = bound(
-        problem.model(),
-        problem.costs(s),
-        problem.constant(),
-        problem.ends(s),
-        vector,
-        part,
-    );
-    Some(Level::Value(value))
-}
-
 /// The level that a vector shows of a scenario in a box, None where that is nothing.
 pub(crate) fn shown_level(
     problem: &Problem,
     s: u32,
     part: &PointBox,
     vector: &Vector,
+    shares: &Shares,
 ) -> Option<Level>
     requires scenario { s < length (posed problem.now).scenarios }
+    requires shares { AreShares problem.now.model vector.now.entries shares.now }
     requires columns { length part.now ≡ length problem.now.model.columns }
     requires rows { RowsBelow (length problem.now.model.rows) vector.now.entries }
 {
-    match bound_level(problem, s, part, vector) {
+    match bound_level(problem, s, part, vector, shares) {
         Some(level) => Some(level),
-        None => farkas_level(problem, s, part, vector),
+        None => farkas_level(problem, s, part, vector, shares),
     }
 }
 
 // What a vector shows of a scenario in a box, None where that is nothing.
-fn shown_by(problem: &Problem, s: u32, part: &PointBox, vectors: &Vectors, k: u32) -> Option<Choice>
+fn shown_by(
+    problem: &Problem,
+    s: u32,
+    part: &PointBox,
+    vectors: &Vectors,
+    shares: &VectorShares,
+    k: u32,
+) -> Option<Choice>
+    requires shares { HaveShares problem.now.model vectors.now shares.now }
     requires scenario { s < length (posed problem.now).scenarios }
     requires columns { length part.now ≡ length problem.now.model.columns }
     requires rows { AllRowsBelow (length problem.now.model.rows) vectors.now }
@@ -100,11 +73,12 @@ fn shown_by(problem: &Problem, s: u32, part: &PointBox, vectors: &Vectors, k: u3
         Some(vector) => vector,
         None => return None,
     };
-    if let Some(level) = bound_level(problem, s, part, vector) {
+    let shares = shares.get(k);
+    if let Some(level) = bound_level(problem, s, part, vector, shares) {
         let verdict = Verdict::Bound(k);
         return Some(Choice { verdict, level });
     }
-    match farkas_level(problem, s, part, vector) {
+    match farkas_level(problem, s, part, vector, shares) {
         Some(level) => {
             let verdict = Verdict::Farkas(k);
             Some(Choice { verdict, level })
@@ -145,7 +119,14 @@ fn single_point(problem: &Problem, s: u32, part: &PointBox) -> Option<Choice>
 }
 
 // The verdict with the greatest level over a replay that isn't empty and that no row misses.
-fn strongest(problem: &Problem, s: u32, part: &PointBox, vectors: &Vectors) -> Choice
+fn strongest(
+    problem: &Problem,
+    s: u32,
+    part: &PointBox,
+    vectors: &Vectors,
+    shares: &VectorShares,
+) -> Choice
+    requires shares { HaveShares problem.now.model vectors.now shares.now }
     requires scenario { s < length (posed problem.now).scenarios }
     requires columns { length part.now ≡ length problem.now.model.columns }
     requires rows { AllRowsBelow (length problem.now.model.rows) vectors.now }
@@ -153,10 +134,10 @@ fn strongest(problem: &Problem, s: u32, part: &PointBox, vectors: &Vectors) -> C
     ensures { IsStrongest (program_at (posed problem.now) s) vectors.now part.now result }
 {
     let _count = vectors.len();
-    let Some(first) = shown_by(problem, s, part, vectors, 0) else {
+    let Some(first) = shown_by(problem, s, part, vectors, shares, 0) else {
         unreachable!()
     };
-    let second = shown_by(problem, s, part, vectors, 1);
+    let second = shown_by(problem, s, part, vectors, shares, 1);
     let best = stronger(first, second);
     stronger(best, single_point(problem, s, part))
 }
@@ -167,8 +148,10 @@ fn conclude(
     s: u32,
     bounds: &PointBox,
     cert: &Cert,
+    shares: &VectorShares,
     part: &mut PointBox,
 ) -> (Choice, bool)
+    requires shares { HaveShares problem.now.model cert.now.vectors shares.now }
     requires scenario { s < length (posed problem.now).scenarios }
     requires columns { length bounds.now ≡ length problem.now.model.columns }
     requires steps { All (IsStep problem.now.model) cert.now.steps }
@@ -179,16 +162,16 @@ fn conclude(
     ensures count { length part.new ≡ length problem.now.model.columns }
 {
     let _limits = problem.costs(s);
-    let verdict = Verdict::Empty;
-    if let Some(level) = judge(problem, s, bounds, cert, verdict, part) {
+    let level = Level::Inf;
+    if !replay_at(problem, s, bounds, cert, part) {
+        let verdict = Verdict::Empty;
         return (Choice { verdict, level }, false);
     }
     if let Some(row) = missed_row(problem, s, part) {
         let verdict = Verdict::Misses(row);
-        let level = Level::Inf;
         return (Choice { verdict, level }, false);
     }
-    let choice = strongest(problem, s, part, &cert.vectors);
+    let choice = strongest(problem, s, part, &cert.vectors, shares);
     (choice, part.is_single())
 }
 
@@ -239,8 +222,9 @@ pub(crate) fn judge_live(
     let mut verdicts = Vec::new(alloc);
     let mut found = found;
     let mut part = bounds.copy(alloc)?;
+    let shares = VectorShares::of(problem.model(), &cert.vectors);
     for s in live.iter() {
-        let (choice, is_point) = conclude(problem, s, bounds, cert, &mut part);
+        let (choice, is_point) = conclude(problem, s, bounds, cert, &shares, &mut part);
         keep_point(alloc, &mut found, s, &part, is_point)?;
         verdicts.push(choice.verdict)?;
     }

@@ -1,6 +1,5 @@
-use Rattle.std.proofs.Common.{◌≡◌}
 use Rattle.scenario_changes.specs.Problems.{problem}
-use Rattle.node_work.proofs.StayerLemmas.{go_on}
+use Rattle.certs.proofs.StayerLemmas.{go_on}
 use Rattle.node_work.proofs.ChoiceLaws.{kept_found}
 use Rattle.node_work.proofs.dives.add_for_all.Goals as goal
 

@@ -1,10 +1,10 @@
-use Rattle.std.proofs.Common.{arith, ◌≡◌, ◌≤◌, ◌+◌, ◌*◌, ◌^◌, ◌+ℤ◌, ◌∙◌, ◌<◌, ap, unsigned_abs, length, suc, FitsSigned, to_z, of_z}
+use Rattle.std.proofs.Common.{arith, ◌≡◌, ◌+ℤ◌, ◌∙◌, ◌<◌, ap, length, suc, FitsSigned, to_z, of_z}
 use Rattle.std.proofs.lemmas.Int.{ints, to_z-of_z}
 use mir.Syntax.{w128}
 use Rattle.int_model.specs.Boxes.{Box}
 use Rattle.dual_bounds.specs.Vectors.{program_sum}
 use Rattle.scenario_changes.specs.Problems.{problem, program_at}
-use Rattle.node_work.proofs.StayerLemmas.{go_on}
+use Rattle.certs.proofs.StayerLemmas.{go_on}
 use Rattle.node_work.proofs.TotalLaws.{total_next}
 use Rattle.node_work.proofs.multipliers.total_of.Goals as goal
 

@@ -1,4 +1,4 @@
-use Rattle.std.proofs.Common.{◌≡◌, ◌≤◌, ◌+◌, ◌*◌, ◌^◌, ◌++◌, unsigned_abs, length}
+use Rattle.std.proofs.Common.{◌≡◌, ◌≤◌, ◌*◌, ◌^◌, ◌++◌, unsigned_abs}
 use Rattle.scenario_changes.specs.Problems.{problem}
 use Rattle.node_work.proofs.TotalLaws.{TotalSoFar}
 use Rattle.node_work.proofs.multipliers.total_of.Given as goal

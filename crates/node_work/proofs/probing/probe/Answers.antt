@@ -1,12 +1,11 @@
-use Rattle.std.proofs.Common.{◌≡◌, ◌≤◌, ℕ, List, [], length, sym, subst, All}
+use Rattle.std.proofs.Common.{◌≤◌, ℕ, List, [], length, sym, subst, All}
 use Rattle.std.proofs.Common.{arith, ap}
-use Rattle.std.specs.Arc.{arc_value}
 use Rattle.int_model.specs.Boxes.{Box}
 use Rattle.tighten.specs.Steps.{IsStep}
 use Rattle.tighten.specs.declared.step.Step.{Step}
 use Rattle.scenario_changes.specs.Problems.{problem}
 use Rattle.dual_bounds.specs.Vectors.{Multipliers}
-use Rattle.node_work.specs.Probes.{EachLive, HasAscent, IsAscent, IsGoodVerdict, remaining, scenarios_of, boxes_of}
+use Rattle.node_work.specs.Probes.{EachLive, HasAscent, IsAscent, IsGoodVerdict, remaining, scenarios_of}
 use Rattle.node_work.proofs.FitLaws.{fits-by}
 use Rattle.node_work.proofs.probing.probe.Goals as goal
 

@@ -1,10 +1,9 @@
-use Rattle.std.proofs.Common.{arith, ◌≡◌, ◌≤◌, ◌<◌, ◌++◌, ◌∷◌, [], List, ℕ, Option, Some, None, true, false, length, sym, ap, ◌∙◌, subst}
+use Rattle.std.proofs.Common.{◌≡◌, ◌++◌, ◌∷◌, [], Some, length, sym, ap, ◌∙◌}
 use Rattle.int_model.specs.Boxes.{Box, is_empty, is_single}
-use Rattle.scenario_changes.specs.Problems.{problem, program_at}
-use Rattle.certs.specs.Trees.{stayers_hull}
+use Rattle.scenario_changes.specs.Problems.{problem}
 use Rattle.certs.proofs.TreeLaws.{length-hull_of}
-use Rattle.node_work.proofs.StayerLemmas.{HullSoFar, so_far_begun, so_far_none, so_far_next, box_at, box_here, hull_first, hull_next, hull_occupied, go_on, split_at}
-use Rattle.node_work.proofs.HullLaws.{member_at, open_now, hull_several, hull_done}
+use Rattle.certs.proofs.StayerLemmas.{so_far_begun, so_far_none, so_far_next, box_at, box_here, hull_first, hull_next, hull_occupied, go_on, split_at}
+use Rattle.node_work.proofs.HullLaws.{member_at, open_now, hull_several}
 use Rattle.node_work.proofs.stayers.hull_stayers.Goals as goal
 
 pub is_stayer-requires-clause-scenario : goal.is_stayer-requires-clause-scenario

@@ -1,7 +1,7 @@
 use Rattle.std.proofs.Common.{◌≡◌, ◌++◌, length, true, false}
 use Rattle.int_model.specs.Boxes.{is_single}
 use Rattle.scenario_changes.specs.Problems.{problem}
-use Rattle.node_work.proofs.StayerLemmas.{HullSoFar}
+use Rattle.certs.proofs.StayerLemmas.{HullSoFar}
 use Rattle.node_work.proofs.stayers.hull_stayers.Given as goal
 
 abbrev pub invariant-loop-s : goal.invariant-loop-s

@@ -1,4 +1,4 @@
-use Rattle.std.proofs.Common.{◌≡◌, ◌+◌, sym, subst, ◌∙◌, List, ℕ}
+use Rattle.std.proofs.Common.{◌+◌, sym, subst, ◌∙◌, List, ℕ}
 use Rattle.node_work.proofs.MadeLaws.{StaySoFar, stay_in, stay_out}
 use Rattle.node_work.proofs.stayers.stayers.Goals as goal
 use Rattle.node_work.proofs.stayers.stayers.Goals.{then-is_below, else-is_below}

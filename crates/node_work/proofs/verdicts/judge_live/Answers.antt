@@ -1,7 +1,6 @@
-use Rattle.std.proofs.Common.{◌≡◌}
 use Rattle.scenario_changes.specs.Problems.{problem}
 use Rattle.node_work.specs.Probes.{lows_of}
-use Rattle.node_work.proofs.StayerLemmas.{go_on}
+use Rattle.certs.proofs.StayerLemmas.{go_on}
 use Rattle.node_work.proofs.ChoiceLaws.{good-next, best-next, kept_found}
 use Rattle.node_work.proofs.verdicts.judge_live.Goals as goal
 

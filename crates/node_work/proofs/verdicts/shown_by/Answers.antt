@@ -1,5 +1,4 @@
-use Rattle.std.proofs.Common.{rules, ◌≡◌, Some}
-use Rattle.std.specs.Prelude.{slice_get}
+use Rattle.std.proofs.Common.{rules}
 use Rattle.certs.proofs.ProblemLemmas.{rows-at}
 use Rattle.node_work.proofs.verdicts.shown_by.Goals as goal
 

@@ -2,7 +2,7 @@ use Rattle.std.proofs.Common.{◌≡◌, ◌++◌, ◌∷◌, [], List, ℕ, len
 use Rattle.int_model.specs.Boxes.{Box}
 use Rattle.live_sets.specs.Members.{IsLiveList}
 use Rattle.scenario_changes.specs.Problems.{problem}
-use Rattle.node_work.proofs.StayerLemmas.{go_on, split_at}
+use Rattle.certs.proofs.StayerLemmas.{go_on, split_at}
 use Rattle.node_work.proofs.RemainingLaws.{remain_first, remain_skip, remain_keep, all_here}
 use Rattle.node_work.proofs.remaining.Remaining.new.Goals as goal
 
