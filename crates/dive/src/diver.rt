@@ -12,14 +12,12 @@ use scenario_changes::Problem;
 use std::alloc::{AllocError, Global};
 use tighten::Engine;
 
-/// After so many conflicts a dive ends.
-pub(crate) const MOST_CONFLICTS: u32 = 40;
-
-/// The engine of bound tightening, with the number of conflicts.
+/// The engine of bound tightening, with the number of conflicts and after how many of them the dive ends.
 #[derive(Drop)]
 pub(crate) struct Diver {
     engine: Engine,
     conflicts: u32,
+    most: u32,
 }
 
 // The most rows that are looked at after one column was fixed.
@@ -28,24 +26,30 @@ fn most_rows(model: &Model) -> usize {
 }
 
 impl Diver {
-    /// A diver for a model that has had no conflict.
-    pub(crate) fn new(alloc: Global, model: &Model) -> Result<Diver, AllocError>
+    /// A diver for a model that has had no conflict, and gives up after so many.
+    pub(crate) fn new(alloc: Global, model: &Model, most: u32) -> Result<Diver, AllocError>
         ensures { IfOk result (λ d. IsSized model.now d.engine) }
     {
         Ok(Diver {
             engine: Engine::new(alloc, model)?,
             conflicts: 0,
+            most,
         })
+    }
+
+    /// After how many conflicts the dive ends.
+    pub(crate) fn most(&self) -> u32 {
+        self.most
     }
 
     /// Whether there were so many conflicts that the dive ends.
     pub(crate) fn is_at_limit(&self) -> bool {
-        self.conflicts >= MOST_CONFLICTS
+        self.conflicts >= self.most
     }
 
     /// Whether there were half as many conflicts.
     pub(crate) fn is_past_half(&self) -> bool {
-        self.conflicts >= MOST_CONFLICTS / 2
+        self.conflicts >= self.most / 2
     }
 
     /// The low end of each interval.

@@ -9,11 +9,14 @@ ghost use Rattle.dive.specs.Plans.{IsPlan};
 
 use crate::Dive;
 use crate::conclusion::conclude;
-use crate::diver::{Diver, MOST_CONFLICTS};
+use crate::diver::Diver;
 use crate::plan::Plan;
 use int_model::{NearPoint, PointBox};
 use scenario_changes::Problem;
 use std::alloc::{AllocError, Global};
+
+// After so many conflicts a dive by costs ends.
+const MOST_CONFLICTS: u32 = 40;
 
 // Fixes the columns in their order. Answers the place of the first one where that fails.
 fn fix_all(
@@ -58,7 +61,7 @@ fn descend(
     if !diver.restart(problem, s, bounds)? {
         return Ok(());
     }
-    for _ in 0..MOST_CONFLICTS {
+    for _ in 0..diver.most() {
         let Some(place) = fix_all(diver, problem, s, plan)? else {
             break;
         };
@@ -80,6 +83,7 @@ fn dive_by(
     s: u32,
     bounds: &PointBox,
     plan: &mut Plan,
+    most: u32,
 ) -> Result<Dive, AllocError>
     requires scenario { s < length (problems.problem problem.now).scenarios }
     requires columns { length bounds.now ≡ length problem.now.model.columns }
@@ -88,7 +92,7 @@ fn dive_by(
     requires plan { IsPlan (length problem.now.model.columns) plan.old }
     ensures { IfOk result (IsDive (program_at (problems.problem problem.now) s) bounds.now) }
 {
-    let mut diver = Diver::new(alloc, problem.model())?;
+    let mut diver = Diver::new(alloc, problem.model(), most)?;
     descend(&mut diver, problem, s, bounds, plan)?;
     let part = PointBox::from_ends(alloc, diver.lows(), diver.highs())?;
     conclude(alloc, problem, s, bounds, part)
@@ -109,17 +113,19 @@ pub fn dive(alloc: Global, problem: &Problem, s: u32, bounds: &PointBox) -> Resu
     // This call tells how many columns the scenario has.
     let _costs = problem.costs(s);
     let mut plan = Plan::by_cost(alloc, problem, s, bounds)?;
-    dive_by(alloc, problem, s, bounds, &mut plan)
+    dive_by(alloc, problem, s, bounds, &mut plan, MOST_CONFLICTS)
 }
 
 /// The same near a point: the columns whose near number is nearest to a whole one are fixed first, each
-/// at its near number. A near point without a number for each column counts as none.
+/// at its near number. A near point without a number for each column counts as none. The dive gives up
+/// after `most` conflicts.
 pub fn dive_near(
     alloc: Global,
     problem: &Problem,
     s: u32,
     bounds: &PointBox,
     near: &NearPoint,
+    most: u32,
 ) -> Result<Dive, AllocError>
     requires scenario { s < length (problems.problem problem.now).scenarios }
     requires occupied { is_empty bounds.now ≡ false }
@@ -133,5 +139,5 @@ pub fn dive_near(
         return dive(alloc, problem, s, bounds);
     }
     let mut plan = Plan::near(alloc, near)?;
-    dive_by(alloc, problem, s, bounds, &mut plan)
+    dive_by(alloc, problem, s, bounds, &mut plan, most)
 }

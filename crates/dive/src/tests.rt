@@ -113,7 +113,7 @@ fn dived(
     assert!(rt; !bounds.is_empty());
     assert!(rt; lies_in_bounds(problem, 0, bounds));
     let found = match near {
-        Some(near) => dive_near(alloc, problem, 0, bounds, near)?,
+        Some(near) => dive_near(alloc, problem, 0, bounds, near, 40)?,
         None => dive(alloc, problem, 0, bounds)?,
     };
     Ok(found)

@@ -8,6 +8,9 @@ use num_text::write_number;
 use scenario_changes::Problem;
 use std::alloc::{AllocError, Global};
 
+// After so many conflicts a dive ends, as at the root of a search.
+const CONFLICTS: u32 = 40;
+
 /// The lines of the last of so many rounds.
 pub(crate) fn repeat(
     alloc: Global,
@@ -41,7 +44,7 @@ fn add_line(
         return Ok(());
     }
     let found = match near {
-        Some(near) => dive_near(alloc, problem, s, &root, near)?,
+        Some(near) => dive_near(alloc, problem, s, &root, near, CONFLICTS)?,
         None => dive(alloc, problem, s, &root)?,
     };
     match found {

@@ -10,7 +10,7 @@ use std::alloc::{AllocError, Global};
 use std::marker;
 
 /// The most rounds of a correction.
-const MOST_ROUNDS: u32 = 60;
+const MOST_ROUNDS: usize = 60;
 
 /// Slopes whose squares add up to less than this are as good as none.
 const LEAST_SQUARES: i128 = 1 << 12;
@@ -83,7 +83,8 @@ impl Correction {
         if !redirect(&mut self.rows, 0) {
             return Ok(false);
         }
-        run(&interior, &mut columns, &mut self.rows, squares);
+        let most = most_rounds(&self.rows, interior.count());
+        run(&interior, &mut columns, &mut self.rows, squares, most);
         corrected(state, &self.rows, &mut self.multipliers);
         Ok(true)
     }
@@ -106,15 +107,34 @@ fn mark_rows(relaxation: &Relaxation, state: &State, rows: &mut [Change])
     }
 }
 
+// How many rounds are worth their while: in exact numbers the method is at its end after as many as there
+// are active rows or columns, whichever are fewer. Rounding takes some more.
+fn most_rounds(rows: &[Change], columns: usize) -> usize {
+    let mut active: usize = 0;
+    for row in rows {
+        if row.active {
+            active = active.wrapping_add(1);
+        }
+    }
+    let smaller = active.min(columns).min(MOST_ROUNDS);
+    (2 * smaller + 8).min(MOST_ROUNDS)
+}
+
 // The rounds of the conjugate gradient method.
-fn run(interior: &Interior, columns: &mut [Residual], rows: &mut [Change], squares: i128)
+fn run(
+    interior: &Interior,
+    columns: &mut [Residual],
+    rows: &mut [Change],
+    squares: i128,
+    most: usize,
+)
     requires columns { length columns.old ≡ interior.now.columns }
     requires rows { length rows.old ≡ interior.now.rows }
     ensures columns { length columns.new ≡ length columns.old }
     ensures rows { length rows.new ≡ length rows.old }
 {
     let mut squares = squares;
-    for _ in 0..MOST_ROUNDS {
+    for _ in 0..most {
         match round(interior, columns, rows, squares) {
             Some(next) => squares = next,
             None => return,

@@ -100,7 +100,7 @@ pub(crate) fn penalty_ranges(
 ) -> Result<Vec<PenaltyRange>, AllocError>
     ensures { IfOk result (λ ranges. length ranges.items ≡ length sums.now) }
 {
-    let mut ranges = Vec::new(alloc);
+    let mut ranges = Vec::with_capacity(alloc, sums.len())?;
     for sum in sums {
         ranges.push(penalty_range(sum.squares, ratio, bits))?;
     }

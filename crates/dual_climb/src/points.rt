@@ -22,7 +22,7 @@ pub(crate) fn starting_point(
     requires { length multipliers.now ≡ relaxation.now.rows }
     ensures { IfOk result (λ point. length point.items ≡ relaxation.now.columns) }
 {
-    let mut point = Vec::new(alloc);
+    let mut point = Vec::with_capacity(alloc, relaxation.count())?;
     for t in 0..relaxation.count() {
         let column = relaxation.column(t);
         let number = match near_number(near, column.number) {
@@ -117,7 +117,7 @@ fn within_sides(
     requires occupied { is_empty (box_of lows.now highs.now) ≡ false }
     ensures { IfOk result (λ within. IsNear (box_of lows.now highs.now) within.items) }
 {
-    let mut within = Vec::new(alloc);
+    let mut within = Vec::with_capacity(alloc, numbers.len())?;
     for j in 0..numbers.len() {
         within.push(clamped(numbers[j], lows[j], highs[j]))?;
     }

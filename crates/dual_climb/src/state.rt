@@ -186,7 +186,7 @@ fn rows_at(
     requires { length sums.now ≡ relaxation.now.rows }
     ensures { IfOk result (λ rows. length rows.items ≡ relaxation.now.rows) }
 {
-    let mut rows = Vec::new(alloc);
+    let mut rows = Vec::with_capacity(alloc, relaxation.rows())?;
     for i in 0..relaxation.rows() {
         rows.push(row_at(relaxation.ends(i), sums[i], fraction, limit))?;
     }
@@ -218,7 +218,7 @@ fn row_at(ends: Ends, sums: RowSums, fraction: u32, limit: i64) -> Row {
 fn shortened(alloc: Global, point: &[i64], fraction: u32) -> Result<Vec<i64>, AllocError>
     ensures { IfOk result (λ numbers. length numbers.items ≡ length point.now) }
 {
-    let mut numbers = Vec::new(alloc);
+    let mut numbers = Vec::with_capacity(alloc, point.len())?;
     for &number in point {
         numbers.push(number.wrapping_shr(MOST_BITS.wrapping_sub(fraction)))?;
     }
@@ -251,7 +251,7 @@ fn add_column(rows: &mut [Row], terms: &[Term], number: i64)
 fn first_penalties(alloc: Global, ranges: &[PenaltyRange]) -> Result<Vec<i64>, AllocError>
     ensures { IfOk result (λ penalties. length penalties.items ≡ length ranges.now) }
 {
-    let mut penalties = Vec::new(alloc);
+    let mut penalties = Vec::with_capacity(alloc, ranges.len())?;
     for &range in ranges {
         penalties.push(first_penalty(range))?;
     }

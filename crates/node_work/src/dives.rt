@@ -19,6 +19,12 @@ use live_sets::LiveSet;
 use scenario_changes::Problem;
 use std::alloc::{AllocError, Global};
 
+// After so many conflicts a dive ends, at the root and elsewhere: there is a point to find at the root, and
+// elsewhere another node may find one.
+const ROOT_CONFLICTS: u32 = 40;
+
+const CONFLICTS: u32 = 8;
+
 // Keeps a copy of a point, if it is one of the scenario.
 fn keep_copy(
     alloc: Global,
@@ -69,7 +75,8 @@ fn dive_in(
     requires occupied { is_empty part.now ≡ false }
     requires within { LiesIn part.now (program_at (posed problem.now) s).bounds }
 {
-    if let Dive::Point(point) = dive_near(alloc, problem, s, part, near)? {
+    let most = if is_root { ROOT_CONFLICTS } else { CONFLICTS };
+    if let Dive::Point(point) = dive_near(alloc, problem, s, part, near, most)? {
         return Ok(Some(point));
     }
     if !is_root {
