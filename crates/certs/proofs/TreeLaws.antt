@@ -157,7 +157,7 @@ dropped_at stay j (l ∷ ls) (suc k) = let e : suc j + k ≡ j + suc k = omega a
 
 -- ---- boxes of stayers
 
-length-meet : (n : ℕ) (box other : Box) → length box ≡ n → length other ≡ n → length (meet box other) ≡ n
+pub length-meet : (n : ℕ) (box other : Box) → length box ≡ n → length other ≡ n → length (meet box other) ≡ n
 length-meet n [] other e f = e
 length-meet zero (i ∷ box) other e f = absurd (omega arith)
 length-meet (suc n) (i ∷ box) [] e f = absurd (omega arith)

@@ -28,15 +28,9 @@ fn cut_to_scenario(problem: &Problem, s: u32, bounds: &PointBox, part: &mut Poin
     ensures count { length part.new ≡ length problem.now.model.columns }
 {
     let _limits = problem.costs(s);
-    let lows = bounds.lows();
-    let highs = bounds.highs();
-    let scenario_lows = problem.lows(s);
-    let scenario_highs = problem.highs(s);
-    for j in 0..lows.len() {
-        let low = lows[j].max(scenario_lows[j]);
-        let high = highs[j].min(scenario_highs[j]);
-        part.set(j as u32, low, high);
-    }
+    let _columns = bounds.lows();
+    part.copy_from(bounds);
+    part.meet(problem.lows(s), problem.highs(s));
 }
 
 // The level of a missed row, None where the row isn't missed or doesn't exist.

@@ -119,7 +119,7 @@ fn cuts_the_root_box(rt: HostRuntime) -> Result<(), Fail> {
 }
 
 #[test]
-fn copies_and_widens(rt: HostRuntime) -> Result<(), Fail> {
+fn copies_widens_and_narrows(rt: HostRuntime) -> Result<(), Fail> {
     let root = PointBox::from_ends(rt.alloc(), &[0, -2, 5], &[3, 1, 5])?;
     let other = PointBox::from_ends(rt.alloc(), &[-1, 0, 7], &[2, 4, 9])?;
     let mut wide = root.copy(rt.alloc())?;
@@ -128,5 +128,12 @@ fn copies_and_widens(rt: HostRuntime) -> Result<(), Fail> {
     wide.hull(&other);
     assert_eq!(rt; wide.lows(), [-1, -2, 5].as_slice());
     assert_eq!(rt; wide.highs(), [3, 4, 9].as_slice());
+    wide.copy_from(&root);
+    assert_eq!(rt; wide.lows(), root.lows());
+    assert_eq!(rt; wide.highs(), root.highs());
+    wide.meet(&[1, -3, 6], &[2, 0, 9]);
+    assert_eq!(rt; wide.lows(), [1, -2, 6].as_slice());
+    assert_eq!(rt; wide.highs(), [2, 0, 5].as_slice());
+    assert!(rt; wide.is_empty());
     Ok(())
 }

@@ -1,7 +1,6 @@
 -- What a step does to a box, and one step more.
-use Rattle.std.specs.Prelude.{◌≡◌, ℕ, zero, suc, ◌<◌, ◌≤◌, ℤ, int_lt, Bool, true, false, ◌||◌, cond, List, [], ◌∷◌, length, map, take, drop, slice_index_or, slice_get, slice_set, Option, Some, None, option_and_then, refl}
+use Rattle.std.specs.Prelude.{◌≡◌, ℕ, zero, suc, ◌<◌, int_lt, Bool, true, false, ◌||◌, cond, List, [], ◌∷◌, length, map, take, slice_index_or, slice_get, slice_set, Option, Some, None, option_and_then, refl}
 use Rattle.std.proofs.Common.{arith, ap, sym, ◌∙◌, inr}
-use Rattle.std.proofs.Math.ListN.{drop_of_length-le}
 use Rattle.std.proofs.lemmas.List.{length-set}
 use Rattle.int_model.specs.Boxes.{Interval, Box, box_of, is_empty}
 use Rattle.int_model.specs.Programs.{Terms}
@@ -14,14 +13,6 @@ use Rattle.tighten.specs.Replay.{left_of, with_interval, tightened, tightened_by
 pub sides-of : (box : Box) → box_of (map (λ (i : Interval). i.low) box) (map (λ (i : Interval). i.high) box) ≡ box
 sides-of [] = refl
 sides-of (i ∷ box) = ap (λ (b : Box). i ∷ b) (sides-of box)
-
-either_none : (b : Bool) → (b || false) ≡ b
-either_none true = refl
-either_none false = refl
-
--- what is known once each interval was looked at
-pub seen-all : (lows highs : List ℤ) (j : ℕ) (b : Bool) → length lows ≤ j → is_empty (box_of lows highs) ≡ (b || is_empty (box_of (drop j lows) (drop j highs))) → is_empty (box_of lows highs) ≡ b
-seen-all lows highs j b h e = e ∙ rw (drop_of_length-le lows h) (either_none b)
 
 pub terms-at : (rows : List Row) (i : ℕ) (row : Row) → slice_get rows i ≡ Some row → slice_index_or (map (λ (r : Row). r.terms) rows) i [] ≡ row.terms
 terms-at [] i row e = absurd (cc)

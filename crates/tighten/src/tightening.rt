@@ -83,20 +83,6 @@ pub fn apply(model: &Model, ends: &[Ends], step: &Step, bounds: &mut PointBox) -
     }
 }
 
-// Whether some interval holds no number. It looks at every interval: without an early way out several are
-// compared at a time.
-fn has_empty(bounds: &PointBox) -> bool
-    ensures { result ≡ boxes.is_empty bounds.now }
-{
-    let lows = bounds.lows();
-    let highs = bounds.highs();
-    let mut is_empty = false;
-    for j in 0..lows.len() {
-        is_empty |= highs[j] < lows[j];
-    }
-    is_empty
-}
-
 /// The steps in order on a box, with the ends of each row. False exactly where the box is empty at the
 /// call, or a step makes an interval empty. The box is unchanged in the first case, and as after the
 /// steps before that one in the second. It takes no memory.
@@ -106,7 +92,7 @@ pub fn replay(model: &Model, ends: &[Ends], steps: &[Step], bounds: &mut PointBo
     requires columns { length bounds.old ≡ length model.now.columns }
     ensures { IsReplayed (rows_of model.now) ends.now steps.now bounds.old result bounds.new }
 {
-    if has_empty(bounds) {
+    if bounds.is_empty() {
         return false;
     }
     // Past the last row a row has no terms, and its sums are 0.
