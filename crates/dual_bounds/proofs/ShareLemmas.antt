@@ -71,6 +71,18 @@ add-step n ts k d m old now w all h place added is j = at (nat_eq (slice_index_o
         let rest : coefficient j (drop k ts) ≡ coefficient j (drop (suc k) ts) = ap (coefficient j) (drop-cons ts k d h) ∙ term-miss j (slice_index_or ts k d) (drop (suc k) ts) e in
         omega (arith, ints, get_or-set_other now (slice_index_or ts k d).0 j w (pos 0) other, added j, ap (λ (z : ℤ). m *ℤ z) rest)
 
+-- narrow shares stay so where a narrow one is put
+pub small-set : (now : List ℤ) (place : ℕ) (w : ℤ) → ((j : ℕ) → unsigned_abs (slice_index_or now j (pos 0)) ≤ 2 ^ 62) → place < length now → unsigned_abs w ≤ 2 ^ 62 → (j : ℕ) → unsigned_abs (slice_index_or (slice_set now place w) j (pos 0)) ≤ 2 ^ 62
+small-set now place w small h fits j = at (nat_eq place j) refl
+  where
+    at : (b : Bool) → nat_eq place j ≡ b → unsigned_abs (slice_index_or (slice_set now place w) j (pos 0)) ≤ 2 ^ 62
+    at true e =
+        let same : place ≡ j = grind (arith, nat_tests) in
+        subst (λ (r : ℕ). unsigned_abs (slice_index_or (slice_set now place w) r (pos 0)) ≤ 2 ^ 62) same (rw (get_or-set_same now place w (pos 0) h) fits)
+    at false e =
+        let other : j ≢ place = grind (arith, nat_tests) in
+        rw (get_or-set_other now place j w (pos 0) other) (small j)
+
 pub added-all : (ts : Terms) (k : ℕ) (m : ℤ) (old now : List ℤ) → length ts ≤ k → IsAdded ts m k old now → (j : ℕ) → slice_index_or now j (pos 0) ≡ slice_index_or old j (pos 0) +ℤ m *ℤ coefficient j ts
 added-all ts k m old now h added j =
     omega (arith, ints, added j, ap (λ (z : ℤ). m *ℤ z) (coefficient-past ts k j h), none_of m)

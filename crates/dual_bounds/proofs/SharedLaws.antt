@@ -1,5 +1,5 @@
 -- Shares that serve all scenarios.
-use Rattle.std.specs.Prelude.{◌≡◌, ℕ, zero, suc, ◌+◌, ◌<◌, ◌≤◌, ℤ, pos, negsuc, ◌+ℤ◌, ◌*ℤ◌, ◌-ℤ◌, ◌≤ℤ◌, ◌<ℤ◌, int_lt, unsigned_abs, List, [], ◌∷◌, length, slice_index_or, drop, Bool, true, false, is_some, refl}
+use Rattle.std.specs.Prelude.{◌≡◌, ℕ, zero, suc, ◌+◌, ◌<◌, ◌≤◌, ℤ, pos, negsuc, ◌+ℤ◌, ◌*ℤ◌, ◌-ℤ◌, ◌≤ℤ◌, ◌<ℤ◌, int_lt, unsigned_abs, List, [], ◌∷◌, length, slice_index_or, take, drop, Bool, true, false, is_some, Some, refl}
 use Rattle.std.proofs.Common.{arith, ap, ◌∙◌}
 use Rattle.std.proofs.lemmas.Int.{ints, clamps}
 use Rattle.std.specs.Int.{int_max, int_min}
@@ -21,6 +21,16 @@ all-counted ends (e ∷ es) h = by_side (all-counted ends es) (is_some (side end
     by_side : (have_ends ends es ≡ true → counted ends es ≡ es) → (b : Bool) → is_some (side ends e) ≡ b → counted ends (e ∷ es) ≡ e ∷ es
     by_side rest true is = rw is (ap (λ (xs : List Entry). e ∷ xs) (rest (rw is at h)))
     by_side rest false is = absurd (let no : false ≡ true = rw is at h in cc)
+
+-- one entry more that has its end
+pub ends-more : (ends : List Ends) (es : List Entry) (k : ℕ) (d : Entry) (w : ℤ) → k < length es → have_ends ends (take k es) ≡ true → side ends (slice_index_or es k d) ≡ Some w → have_ends ends (take (suc k) es) ≡ true
+ends-more ends [] k d w h e f = absurd (omega arith)
+ends-more ends (x ∷ es) zero d w h e f = rw f refl
+ends-more ends (x ∷ es) (suc k) d w h e f = by_side (λ g. ends-more ends es k d w (omega arith) g f) (is_some (side ends x)) refl
+  where
+    by_side : (have_ends ends (take k es) ≡ true → have_ends ends (take (suc k) es) ≡ true) → (b : Bool) → is_some (side ends x) ≡ b → have_ends ends (x ∷ take (suc k) es) ≡ true
+    by_side rest true is = rw is (rest (rw is at e))
+    by_side rest false is = absurd (let no : false ≡ true = rw is at e in cc)
 
 -- sums with the shares are those of the vector
 pub shared-is : (m : IntegerModel) (scale : ℕ) (es : List Entry) (xs : List ℤ) (j : ℕ) (costs : List ℤ) (box : Box) → ((i : ℕ) → i < length m.columns → slice_index_or xs i (pos 0) ≡ share (rows_of m) es i) → j + length costs ≤ length m.columns → least_shared scale xs j costs box ≡ least_reduced (rows_of m) scale es j costs box

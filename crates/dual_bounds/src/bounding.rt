@@ -6,7 +6,7 @@ ghost use Rattle.dual_bounds.specs.Shared.{AreShares};
 ghost use Rattle.dual_bounds.specs.Vectors.{RowsBelow, rows_of, vector_bound, vector_sum, within_range};
 
 use crate::parts::{end_sum, least_product, reduced_cost};
-use crate::shared::{have_ends, least_shared};
+use crate::shared::{least_shared, whole_end_sum};
 use crate::shares::MAX_COLUMNS;
 use crate::{Shares, Vector, shares};
 use int_model::{Ends, Model, PointBox};
@@ -70,11 +70,10 @@ pub fn evaluate_with(
 {
     let _columns = model.columns();
     let entries = vector.entries();
-    if have_ends(ends, entries)
-        && let Some(numbers) = shares.numbers()
+    if let Some(numbers) = shares.numbers()
+        && let Some(end_sum) = whole_end_sum(ends, entries)
     {
-        let scale = vector.scale();
-        return end_sum(ends, entries) + least_shared(scale, costs, numbers, bounds);
+        return end_sum + least_shared(vector.scale(), costs, numbers, bounds);
     }
     evaluate(model, costs, ends, vector, bounds)
 }
@@ -97,8 +96,9 @@ fn nearest(value: i128) -> i64
     (-LIMIT).max(LIMIT.min(value)) as i64
 }
 
-// A sum over the scale, rounded up, and the constant, brought into -2^60 to 2^60.
-fn rounded(sum: i128, scale: u32, constant: i64) -> i64
+/// The bound of a vector from its sum over a box: the sum over the scale, rounded up, and the constant,
+/// brought into -2^60 to 2^60.
+pub fn bound_of_sum(sum: i128, scale: u32, constant: i64) -> i64
     requires sum { unsigned_abs sum ≤ 2 ^ 115 }
     requires scale { 0 < scale }
     ensures value { result ≡ within_range (ceil_div sum (pos scale) +ℤ constant) }
@@ -127,7 +127,7 @@ pub fn bound(
     ensures limit { unsigned_abs result ≤ 2 ^ 60 }
 {
     let sum = evaluate(model, costs, ends, vector, bounds);
-    rounded(sum, vector.scale(), constant)
+    bound_of_sum(sum, vector.scale(), constant)
 }
 
 /// What [`bound`] answers, from shares of the vector that were summed before. It takes no memory.
@@ -151,5 +151,5 @@ pub fn bound_with(
     ensures limit { unsigned_abs result ≤ 2 ^ 60 }
 {
     let sum = evaluate_with(shares, model, costs, ends, vector, bounds);
-    rounded(sum, vector.scale(), constant)
+    bound_of_sum(sum, vector.scale(), constant)
 }

@@ -11,7 +11,7 @@ mod shared;
 mod shares;
 mod vector;
 
-pub use bounding::{bound, bound_with, evaluate, evaluate_with};
+pub use bounding::{bound, bound_of_sum, bound_with, evaluate, evaluate_with};
 pub use parts::{counting_multiplier, end_product, least_product, side};
 pub use shared::Shares;
 pub use vector::{Vector, VectorError};

@@ -22,6 +22,15 @@ pub fn side(ends: &[Ends], row: u32, multiplier: i64) -> Option<i64>
     }
 }
 
+/// A multiplier times an end.
+pub fn end_times(multiplier: i64, end: i64) -> i128
+    requires { IsMultiplier multiplier }
+    ensures value { result ≡ multiplier *ℤ end }
+    ensures limit { unsigned_abs result ≤ 2 ^ 103 }
+{
+    i128::from(multiplier) * i128::from(end)
+}
+
 /// A multiplier times its end, 0 where the row hasn't got that end.
 pub fn end_product(ends: &[Ends], row: u32, multiplier: i64) -> i128
     requires row { row < length ends.now }
@@ -29,8 +38,7 @@ pub fn end_product(ends: &[Ends], row: u32, multiplier: i64) -> i128
     ensures value { result ≡ multiplier *ℤ unwrap_or (spec.side ends.now (row, multiplier)) (pos 0) }
     ensures limit { unsigned_abs result ≤ 2 ^ 103 }
 {
-    let end = side(ends, row, multiplier).unwrap_or(0);
-    i128::from(multiplier) * i128::from(end)
+    end_times(multiplier, side(ends, row, multiplier).unwrap_or(0))
 }
 
 /// The multipliers times the ends that their rows have.

@@ -1,40 +1,35 @@
 // Shares of a vector that serve many scenarios.
-ghost use Rattle.std.specs.Prelude.{◌≡◌, ◌<◌, ◌≤◌, ◌^◌, ◌-ℤ◌, ◌*ℤ◌, ℕ, ℤ, List, Some, None, true, pos, unsigned_abs, length, slice_index_or, MatchOption, ⊤};
+ghost use Rattle.std.specs.Prelude.{◌≡◌, ◌<◌, ◌≤◌, ◌^◌, ◌-ℤ◌, ◌*ℤ◌, ℕ, ℤ, List, Some, None, true, pos, unsigned_abs, length, slice_index_or, IfSome, MatchOption, ⊤};
 ghost use Rattle.int_model.specs.Limits.{IsBound, IsEntry};
 ghost use Rattle.int_model.specs.Programs.{CostsWithin};
 ghost use Rattle.int_model.specs.RowSums as sums;
 ghost use Rattle.dual_bounds.specs.Shared as spec;
 ghost use Rattle.dual_bounds.specs.Shared.{AreShares};
 ghost use Rattle.dual_bounds.specs.SharedParts.{AreSmall};
-ghost use Rattle.dual_bounds.specs.Vectors.{AreEntries, RowsBelow};
+ghost use Rattle.dual_bounds.specs.Vectors.{AreEntries, RowsBelow, counted, end_sum};
 
 use crate::Vector;
-use crate::parts::side;
-use crate::shares::{MAX_COLUMNS, take_all};
+use crate::parts::{end_times, side};
+use crate::shares::{MAX_COLUMNS, take_narrow};
 use int_model::{Ends, Model as IntegerModel, PointBox};
 use std::marker::Model;
-
-/// A narrow share is at most this in absolute value, so that it fits 64 bits together with a cost times a
-/// scale.
-const MOST_SHARE: u128 = 1 << 62;
 
 /// For each column of a model the multipliers of a vector times the column's coefficients, summed once for
 /// all scenarios. There are none where one is too large for a narrow number.
 #[derive(Drop)]
 pub struct Shares {
-    of_columns: [i64; MAX_COLUMNS],
-    are_narrow: bool,
+    of_columns: Option<[i64; MAX_COLUMNS]>,
 }
 
 impl Model for Shares {
     ghost use Rattle.std.specs.Prelude.{ℤ, List, Option};
-    ghost use Rattle.dual_bounds.specs.SharedParts.{numbers, AreSmall};
+    ghost use Rattle.dual_bounds.specs.SharedParts.{AreNarrow};
 
     ghost Value = { Option (List ℤ) };
 
-    ghost view = { λ s. numbers s.are_narrow s.of_columns };
+    ghost view = { λ s. s.of_columns };
 
-    ghost invariant = { λ s. AreSmall s.of_columns };
+    ghost invariant = { λ s. AreNarrow s.of_columns };
 }
 
 impl Shares {
@@ -42,10 +37,7 @@ impl Shares {
     pub fn none() -> Shares
         ensures { result ≡ None }
     {
-        Shares {
-            of_columns: [0; MAX_COLUMNS],
-            are_narrow: false,
-        }
+        Shares { of_columns: None }
     }
 
     /// The shares of a vector, from one pass over the rows of its entries. It takes no memory.
@@ -53,10 +45,14 @@ impl Shares {
         requires { RowsBelow (length model.now.rows) vector.now.entries }
         ensures { AreShares model.now vector.now.entries result }
     {
-        let columns = model.columns();
-        let mut wide = [0; MAX_COLUMNS];
-        take_all(model, vector.entries(), &mut wide);
-        narrowed(&wide, columns as usize)
+        let _columns = model.columns();
+        let mut numbers = [0; MAX_COLUMNS];
+        if !take_narrow(model, vector.entries(), &mut numbers) {
+            return Shares::none();
+        }
+        Shares {
+            of_columns: Some(numbers),
+        }
     }
 
     /// The share of each column.
@@ -65,45 +61,28 @@ impl Shares {
         ensures many { MatchOption result ⊤ (λ x. length x.now ≡ 1000) }
         ensures small { MatchOption result ⊤ (λ x. AreSmall x.now) }
     {
-        if self.are_narrow {
-            Some(&self.of_columns)
-        } else {
-            None
+        match &self.of_columns {
+            Some(numbers) => Some(numbers),
+            None => None,
         }
     }
 }
 
-// The shares of the columns in a narrower type, none where one is too large for it.
-fn narrowed(wide: &[i128], columns: usize) -> Shares
-    requires columns { columns ≤ 1000 }
-    requires many { length wide.now ≡ 1000 }
-    ensures { (numbers : List ℤ) → result ≡ Some numbers → (j : ℕ) → j < columns → slice_index_or numbers j (pos 0) ≡ slice_index_or wide.now j (pos 0) }
+/// The multipliers times the ends that they are held against, None where some row hasn't got its end.
+pub(crate) fn whole_end_sum(ends: &[Ends], entries: &[(u32, i64)]) -> Option<i128>
+    requires few { length entries.now ≤ 128 }
+    requires entries { AreEntries 0 entries.now }
+    requires rows { RowsBelow (length ends.now) entries.now }
+    ensures all { IfSome result (λ z. spec.have_ends ends.now entries.now ≡ true) }
+    ensures value { IfSome result (λ z. z ≡ end_sum ends.now (counted ends.now entries.now)) }
+    ensures limit { IfSome result (λ z. unsigned_abs z ≤ 2 ^ 110) }
 {
-    let mut of_columns = [0; MAX_COLUMNS];
-    for j in 0..columns {
-        let share = wide[j];
-        if share.unsigned_abs() > MOST_SHARE {
-            return Shares::none();
-        }
-        of_columns[j] = share as i64;
-    }
-    Shares {
-        of_columns,
-        are_narrow: true,
-    }
-}
-
-/// Whether the row of each entry has the end that its multiplier is held against.
-pub(crate) fn have_ends(ends: &[Ends], entries: &[(u32, i64)]) -> bool
-    requires { RowsBelow (length ends.now) entries.now }
-    ensures { result ≡ true → spec.have_ends ends.now entries.now ≡ true }
-{
+    let mut sum = 0;
     for &(row, multiplier) in entries {
-        if side(ends, row, multiplier).is_none() {
-            return false;
-        }
+        let end = side(ends, row, multiplier)?;
+        sum += end_times(multiplier, end);
     }
-    true
+    Some(sum)
 }
 
 // The end, in whichever order the two stand, at which a reduced cost times a number between them is least.

@@ -3,7 +3,7 @@ use Rattle.std.proofs.lemmas.Int.{ints, to_z-of_z}
 use mir.Syntax.{w128}
 use Rattle.int_model.specs.Integers.{ceil_div}
 use Rattle.dual_bounds.specs.Vectors.{within_range}
-use Rattle.dual_bounds.proofs.bounding.rounded.Goals as goal
+use Rattle.dual_bounds.proofs.bounding.bound_of_sum.Goals as goal
 
 pub returns-clause-value : goal.returns-clause-value
 returns-clause-value c =
