@@ -1,7 +1,8 @@
 pub mod EndLaws
 pub mod LawfulLaws
 pub mod LevelLists
-pub mod NextLaws
+pub mod AgendaLaws
+pub mod AgendaChanges
 pub mod PoolLaws
 pub mod SoundLaws
 pub mod BoxLemmas

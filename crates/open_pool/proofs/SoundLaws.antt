@@ -1,12 +1,15 @@
 -- The invariant of a pool after a change of one place.
 use Rattle.scenario_changes.specs.Problems as problems
-use Rattle.std.specs.Prelude.{◌≡◌, ℕ, ◌<◌, ◌≤◌, ◌+◌, ◌-◌, ◌*◌, length, slice_set, true, drop, List, ◌++◌, [], ◌∷◌, refl, ℤ, Bool, false, cond, slice_index_or, None}
+use Rattle.std.specs.Prelude.{◌≡◌, ℕ, ◌<◌, ◌≤◌, ◌+◌, ◌-◌, ◌*◌, length, slice_set, true, drop, List, ◌++◌, [], ◌∷◌, refl, ℤ, Bool, false, cond, slice_index_or, None, ◌/◌}
 use Rattle.std.specs.Vec.{with_item, with_items}
 use Rattle.std.proofs.lemmas.List.{take-append-le, take_all, length-set, length-append, append-nil}
 use Rattle.std.proofs.Common.{arith, ap, sym, ◌∙◌, subst, Vec, Global, vec_len, vec_capacity, append_assoc}
 use Rattle.bb_core.specs.Coverage.{Mark, Closed, Open, Slot, Covers, slot_at, settled, new_slots, open_at, placed_of, marked_as, MaySettle}
 use Rattle.open_pool.specs.PoolParts.{IsSound}
 use Rattle.open_pool.specs.declared.pool.Pool.TheInside.{Inside}
+use Rattle.open_pool.specs.declared.agenda.Agenda.{Agenda}
+use Rattle.open_pool.specs.Agenda.{AreFirsts, IsRight, IsRefreshed}
+use Rattle.open_pool.proofs.AgendaChanges.{firsts-marked, firsts-settled}
 use Rattle.bb_core.specs.Settlements.{Settlement, Outcome, Close, Branch, place_of, recorded}
 use Rattle.certs.specs.Trees.{of_live}
 use Rattle.int_model.specs.Boxes.{Box, volume}
@@ -36,8 +39,8 @@ use Rattle.open_pool.proofs.WideLemmas.{wide_marked, wide_root, wide_settled}
 use Rattle.open_pool.proofs.PoolLaws.{Covers-remarked, Covers-settled_here, slot-found}
 
 -- a place that wasn't closed gets another mark, and isn't closed
-pub sound-marked : (a : Inside) (n : ℕ) (was mark : Mark) (t : Slot) → IsSound a → n < length a.slots.items → (slot_at a.slots.items n).mark ≡ was → (was ≡ Closed → ⊥) → (mark ≡ Closed → ⊥) → t ≡ record (slot_at a.slots.items n) { mark = mark } → IsSound (record a { slots = with_item a.slots n t })
-sound-marked a n was mark t h l e w r q = record {
+pub sound-marked : (a : Inside) (n : ℕ) (was mark : Mark) (t : Slot) (agenda : Agenda) → IsSound a → n < length a.slots.items → (slot_at a.slots.items n).mark ≡ was → (was ≡ Closed → ⊥) → (mark ≡ Closed → ⊥) → t ≡ record (slot_at a.slots.items n) { mark = mark } → IsRight (slice_set a.slots.items n t) agenda.firsts.items (n / 128) → ((k : ℕ) → (k ≡ n / 128 → ⊥) → slice_index_or agenda.firsts.items k None ≡ slice_index_or a.agenda.firsts.items k None) → length agenda.firsts.items ≡ length a.agenda.firsts.items → IsSound (record a { slots = with_item a.slots n t; agenda = agenda })
+sound-marked a n was mark t agenda h l e w r q block others many = record {
   right = h.right;
   covered = subst (λ (u : Slot). Covers (problems.problem a.problem.now) (slice_set a.slots.items n u) a.caps.items) (sym q) (Covers-remarked _ _ _ n was mark h.covered l e w r);
   caps = h.caps;
@@ -48,6 +51,8 @@ sound-marked a n was mark t h l e w r q = record {
   room = h.room;
   spare = h.spare;
   spare_room = h.spare_room;
+  firsts = firsts-marked a.slots.items n t a.agenda.firsts.items agenda.firsts.items h.firsts block others;
+  blocks = omega (arith, many, h.blocks);
   scratch = h.scratch;
   wide = wide_marked (problems.problem a.problem.now).columns a.slots.items n (slot_at a.slots.items n) t h.wide (slot-found a.slots.items n l) (ap (λ (u : Slot). u.place) q);
   full = λ f. let g : length (slice_set a.slots.items n t) ≡ length a.slots.items = length-set a.slots.items n t in record { places = omega (arith, g, (h.full f).places); points = (h.full f).points };
@@ -57,8 +62,8 @@ length-settled : (slots : List Slot) (s : Settlement) → length slots ≤ lengt
 length-settled slots s = omega (arith, length-append (slice_set slots s.work.node (record { node = recorded (length slots) s.cert s.verdicts s.outcome; place = place_of s.work; mark = Closed })) (new_slots s.outcome), length-set slots s.work.node (record { node = recorded (length slots) s.cert s.verdicts s.outcome; place = place_of s.work; mark = Closed }))
 
 -- after a settlement that was judged
-pub sound-settled : (a : Inside) (v : Vec Slot Global) (ends : Vec Level Global) (scratch : Scratch) (s : Settlement) → IsSound a → MaySettle (problems.problem a.problem.now) a.slots.items a.caps.items claimed s → v.items ≡ settled a.slots.items s → vec_len v ≤ a.nodes → vec_capacity v ≡ vec_capacity a.slots → IsScratch (problems.problem a.problem.now).columns (length (problems.problem a.problem.now).scenarios) scratch → length ends.items ≡ length a.ends.items → ((k : ℕ) → k < length a.ends.items → slice_index_or ends.items k Inf ≡ lesser_than (slice_index_or (ended (problems.problem a.problem.now) (length a.slots.items) s) k None) (slice_index_or a.ends.items k Inf)) → IsSound (record a { slots = v; ends = ends; scratch = scratch })
-sound-settled a v ends scratch s h w e l c d m g = record {
+pub sound-settled : (a : Inside) (v : Vec Slot Global) (agenda : Agenda) (ends : Vec Level Global) (scratch : Scratch) (s : Settlement) → IsSound a → MaySettle (problems.problem a.problem.now) a.slots.items a.caps.items claimed s → v.items ≡ settled a.slots.items s → vec_len v ≤ a.nodes → vec_capacity v ≡ vec_capacity a.slots → IsScratch (problems.problem a.problem.now).columns (length (problems.problem a.problem.now).scenarios) scratch → length ends.items ≡ length a.ends.items → ((k : ℕ) → k < length a.ends.items → slice_index_or ends.items k Inf ≡ lesser_than (slice_index_or (ended (problems.problem a.problem.now) (length a.slots.items) s) k None) (slice_index_or a.ends.items k Inf)) → ((k : ℕ) → IsRefreshed v.items s.work.node (length a.slots.items) (length v.items) a.agenda.firsts.items agenda.firsts.items k) → length agenda.firsts.items ≡ length a.agenda.firsts.items → IsSound (record a { slots = v; agenda = agenda; ends = ends; scratch = scratch })
+sound-settled a v agenda ends scratch s h w e l c d m g blocks many = record {
   right = h.right;
   covered = subst (λ (slots : List Slot). Covers (problems.problem a.problem.now) slots a.caps.items) (sym e) (Covers-settled_here (problems.problem a.problem.now) a.slots.items a.caps.items s h.covered w);
   caps = h.caps;
@@ -71,6 +76,8 @@ sound-settled a v ends scratch s h w e l c d m g = record {
   room = omega (arith, c, h.room);
   spare = h.spare;
   spare_room = h.spare_room;
+  firsts = subst (λ (xs : List Slot). AreFirsts xs agenda.firsts.items) (sym e) (firsts-settled a.slots.items s a.agenda.firsts.items agenda.firsts.items h.firsts (λ k. subst (λ (xs : List Slot). IsRefreshed xs s.work.node (length a.slots.items) (length xs) a.agenda.firsts.items agenda.firsts.items k) e (blocks k)));
+  blocks = omega (arith, many, h.blocks);
   scratch = d;
   wide = subst (λ (xs : List Slot). AreWide (problems.problem a.problem.now).columns xs) (sym e) (wide_settled (problems.problem a.problem.now) (all_within (problems.problem a.problem.now) h.right) a.slots.items a.caps.items h.wide s w);
   full = λ f. let i : length v.items ≡ length (settled a.slots.items s) = ap length e in record { places = omega (arith, i, length-settled a.slots.items s, (h.full f).places); points = (h.full f).points };
@@ -181,6 +188,8 @@ pub record IsBegun (a : Inside) (n : ℕ) : Type 0 where
   pub room : a.nodes ≤ vec_capacity a.slots
   pub spare : a.spare.items ≡ []
   pub spare_room : a.nodes ≤ vec_capacity a.spare
+  pub firsts : AreFirsts a.slots.items a.agenda.firsts.items
+  pub blocks : a.nodes ≤ length a.agenda.firsts.items * 128
   pub scratch : IsScratch (problems.problem a.problem.now).columns (length (problems.problem a.problem.now).scenarios) a.scratch
   pub halted : a.halted ≡ false
 
@@ -196,6 +205,8 @@ sound-begun a n h = record {
   room = h.room;
   spare = h.spare;
   spare_room = h.spare_room;
+  firsts = h.firsts;
+  blocks = h.blocks;
   scratch = h.scratch;
   wide = subst (λ (slots : List Slot). AreWide (problems.problem a.problem.now).columns slots) (sym h.slots) (wide_root (problems.problem a.problem.now) h.right);
   full = λ f. absurd (let w : false ≡ true = sym h.halted ∙ f in cc);

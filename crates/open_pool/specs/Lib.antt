@@ -1,4 +1,5 @@
 pub mod Marks
+pub mod Agenda
 pub mod Pooled
 pub mod Claims
 pub mod PoolParts

@@ -1,9 +1,10 @@
 -- What the fields of a pool stand for, and what they keep.
 use Rattle.scenario_changes.specs.Problems as problems
-use Rattle.std.specs.Prelude.{◌≡◌, ◌≤◌, [], true, length}
+use Rattle.std.specs.Prelude.{◌≡◌, ◌≤◌, ◌*◌, [], true, length}
 use Rattle.std.proofs.Common.{vec_len, vec_capacity}
 use Rattle.bb_core.specs.Coverage.{Covers}
 use Rattle.scenario_changes.specs.Problems.{AreWithin}
+use Rattle.open_pool.specs.Agenda.{AreFirsts}
 use Rattle.open_pool.specs.Ends.{AreEnds}
 use Rattle.open_pool.specs.Judged.{IsScratch, AreWide}
 use Rattle.open_pool.specs.Pooled.{Pooled, IsFull}
@@ -23,6 +24,8 @@ pub record IsSound (a : Inside) : Type 0 where
   pub room : a.nodes ≤ vec_capacity a.slots
   pub spare : a.spare.items ≡ []
   pub spare_room : a.nodes ≤ vec_capacity a.spare
+  pub firsts : AreFirsts a.slots.items a.agenda.firsts.items
+  pub blocks : a.nodes ≤ length a.agenda.firsts.items * 128
   pub scratch : IsScratch (problems.problem a.problem.now).columns (length (problems.problem a.problem.now).scenarios) a.scratch
   pub wide : AreWide (problems.problem a.problem.now).columns a.slots.items
   pub full : a.halted ≡ true → IsFull (problems.problem a.problem.now) a.nodes (length a.slots.items)

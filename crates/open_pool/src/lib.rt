@@ -6,9 +6,11 @@
 //! records it, so nobody who claims nodes has to be trusted.
 //!
 //! `specs/Pooled.antt` has a pool as contracts see it, `specs/Claims.antt` what a claim and a settlement
-//! answer, and `specs/Ends.antt` the least level over the ends of a scenario.
+//! answer, `specs/Agenda.antt` which node comes first in each block of nodes, and `specs/Ends.antt` the
+//! least level over the ends of a scenario.
 #![tactic(auto)]
 
+mod agenda;
 mod boxes;
 mod lawful;
 mod levels;

@@ -17,9 +17,10 @@ ghost use Rattle.open_pool.specs.Pooled as pooled;
 ghost use Rattle.open_pool.specs.Claims.{IsClaim, ClosedIfDone, FitsProblem, IsSettled, IsAnswer, AreShort, IsSplit};
 ghost use Rattle.open_pool.specs.Ends.{ended};
 
+use crate::agenda::Agenda;
 use crate::lawful::passes;
 use crate::levels::{close_ends, lesser, level_at};
-use crate::scan::{count_claimed, count_open, has_claimed, next_open, waiting_least};
+use crate::scan::{count_claimed, count_open, has_claimed, waiting_least};
 use crate::scratch::Scratch;
 use crate::slot::{Mark, Slot};
 use bb_core::{Outcome, Settlement, Work};
@@ -73,6 +74,8 @@ pub enum Settled {
 pub struct Pool<'p> {
     problem: &'p Problem,
     slots: Vec<Slot>,
+    // Which open node comes next.
+    agenda: Agenda,
     caps: Vec<Level>,
     // For each scenario the least level over its ends at closed nodes.
     ends: Vec<Level>,
@@ -107,6 +110,8 @@ impl<'p> Pool<'p> {
         let count = problem.count() as usize;
         let mut slots = Vec::with_capacity(alloc, nodes as usize)?;
         slots.push_reserved(root_slot(alloc, problem)?);
+        let mut agenda = Agenda::new(alloc, nodes as usize)?;
+        agenda.refresh(slots.as_slice(), 0);
         let spare = Vec::with_capacity(alloc, nodes as usize)?;
         let caps = vec![in alloc; Level::Inf; count]?;
         let ends = vec![in alloc; Level::Inf; count]?;
@@ -114,6 +119,7 @@ impl<'p> Pool<'p> {
         Ok(Pool {
             problem,
             slots,
+            agenda,
             caps,
             ends,
             spare,
@@ -137,11 +143,12 @@ impl<'p> Pool<'p> {
             return Ok(Claim::Stopped);
         }
         let alloc = self.alloc;
-        match next_open(self.slots.as_slice()) {
+        match self.agenda.next(self.slots.as_slice()) {
             Some(n) => {
                 let slot = &mut self.slots[n as usize];
                 let work = slot.work(alloc, n)?;
                 slot.set_mark(Mark::Claimed);
+                self.agenda.refresh(self.slots.as_slice(), n as usize);
                 Ok(Claim::Node(work))
             }
             None => {
@@ -177,6 +184,7 @@ impl<'p> Pool<'p> {
             let slot = &mut self.slots[n];
             if slot.is_claimed() {
                 slot.set_mark(Mark::Open);
+                self.agenda.refresh(self.slots.as_slice(), n);
                 return true;
             }
         }
@@ -210,7 +218,11 @@ impl<'p> Pool<'p> {
         let stay = stayers(&settlement.outcome);
         let raised = self.scratch.raised.as_slice();
         close_ends(self.ends.as_mut_slice(), stay, raised);
-        enter(&mut self.slots, settlement)
+        let count = self.slots.len();
+        let settled = enter(&mut self.slots, settlement);
+        self.agenda
+            .refresh_all(self.slots.as_slice(), node as usize, count);
+        settled
     }
 
     // Whether two more nodes are too many.
@@ -323,6 +335,7 @@ impl<'p> Pool<'p> {
         let Pool {
             problem: _,
             slots,
+            agenda: _,
             caps: _,
             ends: _,
             spare,

@@ -11,41 +11,6 @@ use crate::levels::lesser;
 use crate::slot::Slot;
 use certs::Level;
 
-/// The open node with the least live level, and of these the first.
-pub(crate) fn next_open(slots: &[Slot]) -> Option<u32>
-    requires { length slots.now ≤ 100001 }
-    ensures { MatchOption result (HasNone slots.now Open) (IsNext slots.now) }
-{
-    let mut best: Option<u32> = None;
-    for n in 0..slots.len() {
-        if is_better(slots, best, n) {
-            best = Some(n as u32);
-        }
-    }
-    best
-}
-
-// Whether the node is open and comes before the best of the nodes before it.
-fn is_better(slots: &[Slot], best: Option<u32>, n: usize) -> bool
-    requires here { n < length slots.now }
-    requires best { IfSome best (λ b. b < length slots.now) }
-    ensures open { result ≡ true → (slot_at slots.now n).mark ≡ Open }
-    ensures before { result ≡ true → IfSome best (λ b. level_le (least_live (slot_at slots.now b).place.levels) (least_live (slot_at slots.now n).place.levels) ≡ false) }
-    ensures not { result ≡ false → (slot_at slots.now n).mark ≡ Open → MatchOption best ⊥ (λ b. IsTrue (level_le (least_live (slot_at slots.now b).place.levels) (least_live (slot_at slots.now n).place.levels))) }
-{
-    let slot = &slots[n];
-    if !slot.is_open() {
-        return false;
-    }
-    match best {
-        None => true,
-        Some(b) => {
-            let other = &slots[b as usize];
-            !other.least().is_at_most(slot.least())
-        }
-    }
-}
-
 /// Whether some node is claimed. Where none is, each is open or closed.
 pub(crate) fn has_claimed(slots: &[Slot]) -> bool
     ensures claimed { MatchBool result (HasNone slots.now claimed → ⊥) (HasNone slots.now claimed) }

@@ -21,12 +21,12 @@ fn name(alloc: Global, letter: u8) -> Result<Name, AllocError> {
     Ok(Name::from_vec(bytes))
 }
 
-fn column(alloc: Global, letter: u8, cost: i64) -> Result<ColumnPart, AllocError> {
+fn column(alloc: Global, letter: u8, cost: i64, high: i64) -> Result<ColumnPart, AllocError> {
     Ok(ColumnPart {
         name: name(alloc, letter)?,
         cost,
         low: Some(0),
-        high: Some(3),
+        high: Some(high),
         implied: false,
     })
 }
@@ -41,7 +41,7 @@ fn cap(alloc: Global) -> Result<Parts, AllocError> {
         terms: Terms::from_vec(vec![in alloc; (0, 2), (1, 1)]?),
     };
     Ok(Parts {
-        columns: vec![in alloc; column(alloc, b'x', -3)?, column(alloc, b'y', -2)?]?,
+        columns: vec![in alloc; column(alloc, b'x', -3, 3)?, column(alloc, b'y', -2, 3)?]?,
         rows: vec![in alloc; row]?,
         constant: 0,
         direction: Direction::Min,
@@ -84,17 +84,22 @@ fn bounded(number: i64) -> i32
     if number < 0 {
         return 0;
     }
-    if number > 9 {
-        return 9;
+    if number > 999 {
+        return 999;
     }
     number as i32
 }
 
+// The numbers of both columns, each from its first to its last one.
+fn rectangle(alloc: Global, x: (i64, i64), y: (i64, i64)) -> Result<Arc<PointBox>, AllocError> {
+    let lows = [bounded(x.0), bounded(y.0)];
+    let highs = [bounded(x.1), bounded(y.1)];
+    Ok(Arc::new(alloc, PointBox::from_ends(alloc, &lows, &highs)?)?)
+}
+
 // The numbers from low to high in column 0, and all in column 1.
 fn part(alloc: Global, low: i64, high: i64) -> Result<Arc<PointBox>, AllocError> {
-    let lows = [bounded(low), 0];
-    let highs = [bounded(high), 3];
-    Ok(Arc::new(alloc, PointBox::from_ends(alloc, &lows, &highs)?)?)
+    rectangle(alloc, (low, high), (0, 3))
 }
 
 fn levels(alloc: Global, first: i64, second: i64) -> Result<Arc<Levels>, AllocError> {
@@ -306,5 +311,96 @@ fn gives_back_and_stops(rt: HostRuntime) -> Result<(), Fail> {
     pool.stop();
     assert_eq!(rt; next(&mut pool)?, None);
     assert_eq!(rt; pool.node_count(), 1);
+    Ok(())
+}
+
+// min y, x in 0..999 and y in 0..3, and one scenario.
+fn wide(rt: &impl Abort, alloc: Global) -> Result<Problem, Fail> {
+    let parts = Parts {
+        columns: vec![in alloc; column(alloc, b'x', 0, 999)?, column(alloc, b'y', 1, 3)?]?,
+        rows: Vec::new(alloc),
+        constant: 0,
+        direction: Direction::Min,
+    };
+    let model = Model::build(alloc, parts)?;
+    let changes = Changes::new(alloc, &model)?;
+    assert!(rt; changes.fits(&model));
+    Ok(Problem::new(alloc, model, changes)?)
+}
+
+fn end(ends: &[i32], column: usize) -> i64 {
+    match ends.get(column) {
+        Some(end) => i64::from(*end),
+        None => 0,
+    }
+}
+
+// The bound without multipliers, and a split of the box: the root at y = 0, the others in the middle of x.
+fn halves(alloc: Global, work: Work) -> Result<Settlement, Fail> {
+    let x = (end(work.bounds.lows(), 0), end(work.bounds.highs(), 0));
+    let y = (end(work.bounds.lows(), 1), end(work.bounds.highs(), 1));
+    let middle = bounded((x.0 + x.1) / 2);
+    let least = Arc::new(alloc, Levels::from_vec(vec![in alloc; Level::Value(y.0)]?))?;
+    let mut vectors = Vectors::new(alloc);
+    vectors.push(Vector::new(alloc, 1, &[])?);
+    let is_root = work.node == 0;
+    let (column, value, left, right) = if is_root {
+        let left = rectangle(alloc, x, (0, 0))?;
+        (1, 0, left, rectangle(alloc, x, (1, 3))?)
+    } else {
+        let left = rectangle(alloc, (x.0, i64::from(middle)), y)?;
+        let right = rectangle(alloc, (i64::from(middle) + 1, x.1), y)?;
+        (0, middle, left, right)
+    };
+    Ok(Settlement {
+        work,
+        cert: Cert {
+            steps: Steps::from_vec(Vec::new(alloc)),
+            vectors,
+        },
+        verdicts: verdicts(alloc, 1, Verdict::Bound(0))?,
+        outcome: Outcome::Split {
+            stay: LiveSet::full(1),
+            column,
+            value,
+            left,
+            right,
+            left_levels: Arc::try_clone(&least)?,
+            right_levels: least,
+            left_hint: None,
+            right_hint: None,
+        },
+    })
+}
+
+// Claims a node and splits it.
+fn split_next(alloc: Global, pool: &mut Pool<'_>) -> Result<Option<u32>, Fail> {
+    match pool.claim()? {
+        Claim::Node(work) => {
+            let node = work.node;
+            let settlement = halves(alloc, work)?;
+            pool.settle(settlement);
+            Ok(Some(node))
+        }
+        _ => Ok(None),
+    }
+}
+
+// The children of node 2 have a greater level than all others.
+#[test]
+fn claims_by_level_and_number_from_several_blocks(rt: HostRuntime) -> Result<(), Fail> {
+    let problem = wide(&rt, rt.alloc())?;
+    let mut pool = Pool::begin(rt.alloc(), &problem, 281)?;
+    for n in 0..140 {
+        let wanted = if n < 5 { n } else { n + 2 };
+        assert_eq!(rt; split_next(rt.alloc(), &mut pool)?, Some(wanted));
+    }
+    assert_eq!(rt; pool.open_count(), 141);
+    for n in 142..281 {
+        assert_eq!(rt; next(&mut pool)?, Some(n));
+    }
+    assert_eq!(rt; next(&mut pool)?, Some(5));
+    assert_eq!(rt; next(&mut pool)?, Some(6));
+    assert_eq!(rt; next(&mut pool)?, None);
     Ok(())
 }

@@ -20,7 +20,7 @@ invariant_of-self-in-Some c =
     let below : c.in-Some.n < length c.self.inside.slots.items = at_n.0 in
     let here : c.index_mut-slot.result.now ≡ slot_at c.self.inside.slots.items c.in-Some.n = c.index_mut-slot.ensures.value ∙ index-any c.self.inside.slots.items c.in-Some.n c.index_mut-slot.result.now _ below in
     let mark : (slot_at c.self.inside.slots.items c.in-Some.n).mark ≡ Open = ap (λ (t : Slot). t.mark) at_n.1 ∙ next.open_here.marked in
-    sound-marked c.self.inside c.in-Some.n Open claimed c.set_mark.new.self c.self.invariant below mark (λ e. absurd (cc)) (λ e. absurd (cc)) (c.set_mark.ensures ∙ ap (λ (t : Slot). record t { mark = claimed }) (c.in_ok-work-in-Some.ensures.same ∙ here))
+    sound-marked c.self.inside c.in-Some.n Open claimed c.set_mark.new.self c.refresh.new.self c.self.invariant below mark (λ e. absurd (cc)) (λ e. absurd (cc)) (c.set_mark.ensures ∙ ap (λ (t : Slot). record t { mark = claimed }) (c.in_ok-work-in-Some.ensures.same ∙ here)) (rw c.as_slice-in-Some.ensures.value at c.refresh.ensures.block) c.refresh.ensures.others c.refresh.ensures.many
 
 pub returns-in_ok-work-in-Some-clause-ok : goal.returns-in_ok-work-in-Some-clause-ok
 returns-in_ok-work-in-Some-clause-ok c =

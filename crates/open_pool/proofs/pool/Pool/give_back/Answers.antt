@@ -10,4 +10,4 @@ invariant_of-self c =
     let below : c.args.node < length c.self.inside.slots.items = omega arith in
     let here : c.index_mut-slot.result.now ≡ slot_at c.self.inside.slots.items c.args.node = c.index_mut-slot.ensures.value ∙ index-any c.self.inside.slots.items c.args.node c.index_mut-slot.result.now _ below in
     let mark : (slot_at c.self.inside.slots.items c.args.node).mark ≡ claimed = ap (λ (t : Slot). t.mark) (sym here) ∙ c.is_claimed.ensures.yes c.if-is_claimed.true in
-    sound-marked c.self.inside c.args.node claimed Open c.set_mark.new.self c.self.invariant below mark (λ e. absurd (cc)) (λ e. absurd (cc)) (c.set_mark.ensures ∙ ap (λ (t : Slot). record t { mark = Open }) here)
+    sound-marked c.self.inside c.args.node claimed Open c.set_mark.new.self c.refresh.new.self c.self.invariant below mark (λ e. absurd (cc)) (λ e. absurd (cc)) (c.set_mark.ensures ∙ ap (λ (t : Slot). record t { mark = Open }) here) (rw c.as_slice.ensures.value at c.refresh.ensures.block) c.refresh.ensures.others c.refresh.ensures.many
