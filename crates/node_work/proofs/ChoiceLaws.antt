@@ -9,11 +9,11 @@ use Rattle.dual_bounds.specs.Vectors.{Multipliers, program_bound}
 use Rattle.scenario_changes.specs.Problems.{Problem, program_at}
 use Rattle.certs.specs.Levels.{level_le}
 use Rattle.certs.specs.Trees.{some_row_misses}
-use Rattle.certs.specs.Verdicts.{level_over, level_on, row_level, bound_level, farkas_level}
+use Rattle.certs.specs.Verdicts.{judged, level_over, level_on, bound_level, farkas_level}
 use Rattle.certs.specs.declared.level.Level.{Level}
 use Rattle.certs.specs.declared.level.Level.TheVariants.{Value, Inf}
 use Rattle.certs.specs.declared.verdict.Verdict.{Verdict}
-use Rattle.certs.specs.declared.verdict.Verdict.TheVariants.{Empty, Misses, Point, Bound}
+use Rattle.certs.specs.declared.verdict.Verdict.TheVariants.{Point, Bound}
 use Rattle.certs.specs.declared.cert.Cert.{Cert}
 use Rattle.certs.proofs.TreeLaws.{stayer_box-is}
 use Rattle.node_work.specs.Probes.{Found, EachLive, AreFound, IsGoodVerdict, IsBestVerdict, lows_of}
@@ -101,25 +101,15 @@ strongest_by p vectors part o first second best single c n is a b s e t =
 -- ---- what is concluded of a scenario
 
 module _ (p : Problem) (box : Box) (cert : Cert) (k : ℕ) where
-  -- the replay is empty
-  pub conclude_empty : (now : Box) → replay (program_at p k) cert.steps box ≡ None → IsConcluded p box cert k (record { verdict = Empty; level = Inf }) false now
-  conclude_empty now e = record {
-    valid = ap (level_on (program_at p k) cert.vectors Empty) e;
+  -- a verdict of the level Inf
+  pub conclude_refused : (now : Box) (v : Verdict) → judged (program_at p k) box cert v ≡ Some Inf → IsConcluded p box cert k (record { verdict = v; level = Inf }) false now
+  conclude_refused now v e = record {
+    valid = e;
     missed = λ part r m. refl;
     single = λ part r s. inl refl;
-    best = λ part r i v a b. le_inf (Value (program_bound (program_at p k) v part));
+    best = λ part r i w a b. le_inf (Value (program_bound (program_at p k) w part));
     feasible = λ q. absurd (cc);
   }
-
-  -- a row misses it
-  pub conclude_missed : (now : Box) (i : ℕ) (c : Choice) → replay (program_at p k) cert.steps box ≡ Some now → row_level (program_at p k) i now ≡ Some Inf → some_row_misses (program_at p k) p.rows now ≡ true → c ≡ record { verdict = Misses i; level = Inf } → IsConcluded p box cert k c false now
-  conclude_missed now i c r e m is = subst (λ (z : Choice). IsConcluded p box cert k z false now) (sym is) (record {
-    valid = ap (level_on (program_at p k) cert.vectors (Misses i)) r ∙ e;
-    missed = λ part q n. refl;
-    single = λ part q s. inl refl;
-    best = λ part q j v a b. le_inf (Value (program_bound (program_at p k) v part));
-    feasible = λ q. absurd (cc);
-  })
 
   -- no row misses it
   pub conclude_strongest : (now : Box) (c : Choice) (is_point : Bool) → replay (program_at p k) cert.steps box ≡ Some now → some_row_misses (program_at p k) p.rows now ≡ false → IsStrongest (program_at p k) cert.vectors now c → is_point ≡ is_single now → (is_single now ≡ true → Feasible (program_at p k) (lows_of now)) → IsConcluded p box cert k c is_point now

@@ -1,5 +1,5 @@
 -- The hull of stayers that are open.
-use Rattle.std.specs.Prelude.{◌≡◌, ℕ, ◌<◌, ℤ, ◌≤ℤ◌, List, [], ◌∷◌, ◌++◌, length, Bool, true, false, nat_eq, Option, Some, None, refl}
+use Rattle.std.specs.Prelude.{◌≡◌, ℕ, ℤ, ◌≤ℤ◌, List, [], ◌∷◌, ◌++◌, length, Bool, true, false, nat_eq, Option, Some, None, refl}
 use Rattle.std.specs.Int.{int_min, int_max}
 use Rattle.std.specs.List.{list_any}
 use Rattle.std.proofs.Common.{arith, ap, sym, ◌∙◌, subst, inl, inr, append-nil}
@@ -9,13 +9,15 @@ use Rattle.std.proofs.lemmas.Bool.Decides.{Decides-int_eq}
 use Rattle.int_model.specs.Integers.{int_eq}
 use Rattle.int_model.specs.Boxes.{Box, hull, is_empty, is_single}
 use Rattle.int_model.proofs.VolumeLaws.{HasPoints, not_empty-points}
-use Rattle.scenario_changes.specs.Problems.{Problem, program_at}
+use Rattle.tighten.specs.Replay.{replay}
+use Rattle.scenario_changes.specs.Problems.{Problem, IsWithin, program_at}
 use Rattle.live_sets.proofs.RisingLists.{In}
 use Rattle.certs.specs.Trees.{stayer_box, stayers_hull}
 use Rattle.certs.specs.declared.cert.Cert.{Cert}
-use Rattle.node_work.specs.Stayers.{IsOpen, AreOpen}
+use Rattle.node_work.specs.Stayers.{IsOpen}
 use Rattle.node_work.proofs.SetLemmas.{in_any}
-use Rattle.certs.proofs.StayerLemmas.{HullSoFar}
+use Rattle.certs.proofs.TreeLaws.{stayer_box-is}
+use Rattle.certs.proofs.StayerLemmas.{HullSoFar, stays_occupied}
 
 one_number : (a b c d : ℤ) → a ≤ℤ b → int_min a c ≡ int_max b d → a ≡ b
 one_number a b c d h e = omega (arith, ints, clamps, h, e)
@@ -40,31 +42,36 @@ in_at : (before : List ℕ) (s : ℕ) (next : List ℕ) → In (before ++ s ∷ 
 in_at [] s next = inl refl
 in_at (x ∷ before) s next = inr (in_at before s next)
 
+pub in_here : (all before : List ℕ) (s : ℕ) (next : List ℕ) → all ≡ before ++ s ∷ next → In all s
+in_here all before s next e = subst (λ (xs : List ℕ). In xs s) (sym e) (in_at before s next)
+
 pub member_at : (all before : List ℕ) (s : ℕ) (next : List ℕ) → all ≡ before ++ s ∷ next → list_any (nat_eq s) all ≡ true
 member_at all before s next e = ap (λ (xs : List ℕ). list_any (nat_eq s) xs) e ∙ in_any s (before ++ s ∷ next) (in_at before s next)
 
 module _ (p : Problem) (box : Box) (cert : Cert) where
   -- the box is the replay of an open scenario
   pub record IsNow (k : ℕ) (now : Box) : Type 0 where
-    pub is_scenario : k < length p.scenarios
     pub here : stayer_box p box cert (program_at p k) ≡ Some now
     pub occupied : is_empty now ≡ false
     pub several : is_single now ≡ false
 
-  pub open_now : (stay before next : List ℕ) (s : ℕ) (b : Bool) (now : Box) → stay ≡ before ++ s ∷ next → AreOpen p box cert stay → (b ≡ true → stayer_box p box cert (program_at p s) ≡ Some now) → (b ≡ true → is_empty now ≡ false) → (b ≡ false → stayer_box p box cert (program_at p s) ≡ None) → IsNow s now
-  open_now stay before next s b now e open_all there occupied none = by_test b refl (open_all s (member_at stay before s next e))
+  pub open_now : (columns rows k : ℕ) (b : Bool) (now : Box) → IsWithin columns rows (program_at p k) → length box ≡ columns → IsOpen p box cert k → (b ≡ true → replay (program_at p k) cert.steps box ≡ Some now) → (b ≡ false → replay (program_at p k) cert.steps box ≡ None) → IsNow k now
+  open_now columns rows k b now w n o there none = by_test b refl
     where
-      by_test : (t : Bool) → b ≡ t → IsOpen p box cert s → IsNow s now
-      by_test true q o = record {
-        is_scenario = o.is_scenario;
-        here = there q;
-        occupied = occupied q;
-        several = (let same : o.part ≡ now = some_same (sym o.is_part ∙ there q) in subst (λ (c : Box). is_single c ≡ false) same o.several);
-      }
-        where
-          some_same : {a c : Box} → ◌≡◌ {A = Option Box} (Some a) (Some c) → a ≡ c
-          some_same f = cc
-      by_test false q o = absurd (let w : None ≡ Some o.part = sym (none q) ∙ o.is_part in cc)
+      was : replay (program_at p k) cert.steps box ≡ Some o.part
+      was = stayer_box-is p box cert (program_at p k) o.part o.is_part
+
+      some_same : {a c : Box} → ◌≡◌ {A = Option Box} (Some a) (Some c) → a ≡ c
+      some_same f = cc
+
+      by_same : o.part ≡ now → IsNow k now
+      by_same same =
+          let here : stayer_box p box cert (program_at p k) ≡ Some now = o.is_part ∙ ap (λ (c : Box). Some c) same in
+          record { here = here; occupied = stays_occupied p box cert (program_at p k) now columns rows w n here; several = subst (λ (c : Box). is_single c ≡ false) same o.several }
+
+      by_test : (t : Bool) → b ≡ t → IsNow k now
+      by_test true q = by_same (some_same (sym was ∙ there q))
+      by_test false q = absurd (let w : None ≡ Some o.part = sym (none q) ∙ was in cc)
 
   pub record IsDone (stay : List ℕ) (b : Bool) (h : Box) : Type 0 where
     pub begun : b ≡ true

@@ -4,6 +4,7 @@ pub mod LiveLists
 pub mod LevelOrder
 pub mod StayLaws
 pub mod SingleLaws
+pub mod RefusalLaws
 pub mod RemainingLaws
 pub mod FitLaws
 pub mod BoundingLaws

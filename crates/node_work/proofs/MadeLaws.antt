@@ -143,3 +143,6 @@ pub is_none_is : {X : Type 0} (o : Option X) (b : Bool) → is_some o ≡ not b 
 is_none_is None b h e = refl
 is_none_is (Some x) true h e = absurd (cc)
 is_none_is (Some x) false h e = absurd (cc)
+
+pub not_none_is : {X : Type 0} (o : Option X) (b : Bool) → is_some o ≡ not b → b ≡ false → is_some o ≡ true
+not_none_is o b h e = h ∙ ap (λ (c : Bool). not c) e

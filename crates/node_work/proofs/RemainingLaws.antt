@@ -10,7 +10,9 @@ use Rattle.certs.specs.declared.cert.Cert.{Cert}
 use Rattle.live_sets.specs.Members.{with_member, IsLiveList}
 use Rattle.live_sets.proofs.RisingLists.{In, Rises, in_rising, rises_lower}
 use Rattle.node_work.specs.Probes.{with_box, remaining, scenarios_of, boxes_of}
+use Rattle.node_work.specs.Refusals.{IsPart, HaveParts}
 use Rattle.node_work.proofs.LiveLists.{rises_from_zero}
+use Rattle.node_work.proofs.RefusalLaws.{parts_more, parts_none}
 
 -- ---- sets
 
@@ -85,6 +87,7 @@ module _ (p : Problem) (box : Box) (cert : Cert) where
     pub before : IsBefore scenarios rest
     pub below : All (λ (s : ℕ). s < length p.scenarios) scenarios
     pub wide : All (λ (b : Box). length b ≡ columns) boxes
+    pub parts : HaveParts p scenarios boxes
 
   pub remain_first : (columns : ℕ) (rest scenarios : List ℕ) (boxes : List Box) → scenarios ≡ [] → boxes ≡ [] → IsLiveList rest → RemainSoFar columns [] rest scenarios boxes
   remain_first columns rest scenarios boxes e f set = record {
@@ -94,6 +97,7 @@ module _ (p : Problem) (box : Box) (cert : Cert) where
     before = before_none scenarios rest e set;
     below = λ k d l. absurd (let n : length scenarios ≡ 0 = ap length e in omega (arith, l, n));
     wide = λ k d l. absurd (let n : length boxes ≡ 0 = ap length f in omega (arith, l, n));
+    parts = parts_none p scenarios boxes e;
   }
 
   pub remain_skip : (columns : ℕ) (ks rest next scenarios : List ℕ) (boxes : List Box) (k : ℕ) → RemainSoFar columns ks rest scenarios boxes → rest ≡ k ∷ next → stayer_box p box cert (program_at p k) ≡ None → RemainSoFar columns (ks ++ k ∷ []) next scenarios boxes
@@ -106,14 +110,15 @@ module _ (p : Problem) (box : Box) (cert : Cert) where
         before = before_next scenarios k next (subst (λ (xs : List ℕ). IsBefore scenarios xs) e h.before);
         below = h.below;
         wide = h.wide;
+        parts = h.parts;
       }
 
   length_push : {X : Type 0} (xs : List X) (x : X) → length (xs ++ x ∷ []) ≡ suc (length xs)
   length_push [] x = refl
   length_push (y ∷ xs) x = ap suc (length_push xs x)
 
-  pub remain_keep : (columns : ℕ) (ks rest next scenarios new : List ℕ) (boxes now : List Box) (k : ℕ) (part : Box) → RemainSoFar columns ks rest scenarios boxes → rest ≡ k ∷ next → stayer_box p box cert (program_at p k) ≡ Some part → k < length p.scenarios → length part ≡ columns → new ≡ with_member k scenarios → now ≡ boxes ++ part ∷ [] → RemainSoFar columns (ks ++ k ∷ []) next new now
-  remain_keep columns ks rest next scenarios new boxes now k part h e some below n f g =
+  pub remain_keep : (columns : ℕ) (ks rest next scenarios new : List ℕ) (boxes now : List Box) (k : ℕ) (part : Box) → RemainSoFar columns ks rest scenarios boxes → rest ≡ k ∷ next → stayer_box p box cert (program_at p k) ≡ Some part → k < length p.scenarios → length part ≡ columns → IsPart p k part → new ≡ with_member k scenarios → now ≡ boxes ++ part ∷ [] → RemainSoFar columns (ks ++ k ∷ []) next new now
+  remain_keep columns ks rest next scenarios new boxes now k part h e some below n is f g =
       let before : IsBefore scenarios (k ∷ next) = subst (λ (xs : List ℕ). IsBefore scenarios xs) e h.before in
       let last : new ≡ scenarios ++ k ∷ [] = f ∙ member_last k scenarios (λ x i. before.before x k i (inl refl)) in
       let more : remaining p box cert (ks ++ k ∷ []) ≡ remaining p box cert ks ++ (k, part) ∷ [] = remaining_more ks k ∙ ap (λ (o : Option Box). remaining p box cert ks ++ with_box k o []) some in
@@ -124,4 +129,5 @@ module _ (p : Problem) (box : Box) (cert : Cert) where
         before = subst (λ (xs : List ℕ). IsBefore xs next) (sym last) (before_push scenarios k next before);
         below = subst (λ (xs : List ℕ). All (λ (s : ℕ). s < length p.scenarios) xs) (sym last) (All-push (λ (s : ℕ). s < length p.scenarios) scenarios k h.below below);
         wide = subst (λ (xs : List Box). All (λ (b : Box). length b ≡ columns) xs) (sym g) (All-push (λ (b : Box). length b ≡ columns) boxes part h.wide n);
+        parts = subst (λ (xs : List ℕ). HaveParts p xs now) (sym last) (subst (λ (bs : List Box). HaveParts p (scenarios ++ k ∷ []) bs) (sym g) (parts_more p scenarios boxes k part h.count h.parts is));
       }

@@ -13,13 +13,12 @@ use Rattle.int_model.proofs.BoxLaws.{tells-points}
 use Rattle.int_model.proofs.VolumeLaws.{points-not_empty}
 use Rattle.tighten.specs.Replay.{replay, replayed}
 use Rattle.tighten.specs.declared.step.Step.{Step}
-use Rattle.scenario_changes.specs.Problems.{Problem, IsWithin}
-use Rattle.certs.specs.Trees.{some_row_misses, stayer_box}
+use Rattle.scenario_changes.specs.Problems.{Problem, IsWithin, program_at}
+use Rattle.certs.specs.Trees.{some_row_misses}
 use Rattle.certs.specs.declared.cert.Cert.{Cert}
-use Rattle.certs.proofs.TreeLaws.{stayer_box-is}
-use Rattle.dive.specs.Dives.{LiesIn}
 use Rattle.certs.proofs.BoxParts.{Inside, PartOf, replay-part}
 use Rattle.node_work.specs.Probes.{lows_of}
+use Rattle.node_work.specs.Refusals.{IsPart}
 
 -- ---- within the bounds
 
@@ -146,6 +145,13 @@ single-feasible columns rows s steps box part w n r one none =
       rows = meets_all s.rows s.ends part (w.shape.ends ∙ sym w.shape.rows) one (λ i l. none_misses s rows part none i (omega (arith, l, w.shape.rows)));
     }
 
--- the replay of a scenario that remains lies in the scenario's bounds
-pub stayer-lies : (columns rows : ℕ) (p : Problem) (box : Box) (cert : Cert) (s : Program) (part : Box) → IsWithin columns rows s → length box ≡ columns → stayer_box p box cert s ≡ Some part → LiesIn part s.bounds
-stayer-lies columns rows p box cert s part w n e = λ x i. Inside-InBox part s.bounds x (replay-bounds columns s cert.steps box part n w.shape.bounds (stayer_box-is p box cert s part e)).inside i
+-- the replay of a scenario, where no row misses it
+pub replay-is_part : (p : Problem) (box : Box) (cert : Cert) (k : ℕ) (part : Box) → IsWithin p.columns p.rows (program_at p k) → length box ≡ p.columns → replay (program_at p k) cert.steps box ≡ Some part → some_row_misses (program_at p k) p.rows part ≡ false → length part ≡ p.columns → IsPart p k part
+replay-is_part p box cert k part w n r none l =
+    let here : PartOf part (program_at p k).bounds = replay-bounds p.columns (program_at p k) cert.steps box part n w.shape.bounds r in
+    record {
+      columns = l;
+      occupied = points-not_empty part here.points;
+      within = λ x i. Inside-InBox part (program_at p k).bounds x here.inside i;
+      feasible = λ one. single-feasible p.columns p.rows (program_at p k) cert.steps box part w n r one none;
+    }

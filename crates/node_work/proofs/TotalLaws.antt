@@ -19,12 +19,12 @@ sum-read p s m costs ends v box r =
     ∙ ap (λ (es : List Ends). vector_sum (program_at (problem p) s).rows es costs v box) r.ends_are
     ∙ ap (λ (cs : List ℤ). vector_sum (program_at (problem p) s).rows (program_at (problem p) s).ends cs v box) r.costs_are
 
-drop_here : {X : Type 0} (xs : List X) (k : ℕ) (d : X) → k < length xs → drop k xs ≡ slice_index_or xs k d ∷ drop (suc k) xs
+pub drop_here : {X : Type 0} (xs : List X) (k : ℕ) (d : X) → k < length xs → drop k xs ≡ slice_index_or xs k d ∷ drop (suc k) xs
 drop_here [] k d h = absurd (omega arith)
 drop_here (x ∷ xs) zero d h = refl
 drop_here (x ∷ xs) (suc k) d h = drop_here xs k d (omega arith)
 
-drop_end : {X : Type 0} (xs : List X) (k : ℕ) → length xs ≤ k → drop k xs ≡ []
+pub drop_end : {X : Type 0} (xs : List X) (k : ℕ) → length xs ≤ k → drop k xs ≡ []
 drop_end [] zero h = refl
 drop_end [] (suc k) h = refl
 drop_end (x ∷ xs) zero h = absurd (omega arith)

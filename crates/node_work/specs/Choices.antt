@@ -10,6 +10,7 @@ use Rattle.certs.specs.Trees.{some_row_misses, stayer_box}
 use Rattle.certs.specs.Verdicts.{AllRowsBelow, judged, level_over, bound_level, farkas_level}
 use Rattle.certs.specs.declared.level.Level.{Level}
 use Rattle.certs.specs.declared.level.Level.TheVariants.{Value, Inf}
+use Rattle.certs.specs.declared.verdict.Verdict.{Verdict}
 use Rattle.certs.specs.declared.verdict.Verdict.TheVariants.{Point, Bound, Farkas}
 use Rattle.certs.specs.declared.cert.Cert.{Cert}
 use Rattle.node_work.specs.Probes.{Found, IsAscent, lows_of}
@@ -74,6 +75,18 @@ pub record IsConcluded (p : Problem) (box : Box) (cert : Cert) (k : ℕ) (c : Ch
 abbrev pub IsKept : Found → ℕ → List ℤ → Bool → Found → Type 0
 IsKept old k x true new = new ≡ old ++ (k, x) ∷ []
 IsKept old k x false new = new ≡ old
+
+-- the verdict is the strongest one over the box of scenario k, and the point of a single box is kept
+pub record IsJudgedOver (p : Program) (vectors : List Multipliers) (k : ℕ) (part : Box) (old : Found) (v : Verdict) (new : Found) : Type 0 where
+  pub level : Level
+  pub strongest : IsStrongest p vectors part (record { verdict = v; level = level })
+  pub kept : IsKept old k (lows_of part) (is_single part) new
+
+-- the verdict is the refusal, or else that of the box
+abbrev pub IsJudged : Program → List Multipliers → ℕ → Option Verdict → Option Box → Found → Verdict → Found → Type 0
+IsJudged p vectors k (Some refusal) part old v new = (v ≡ refusal) × (new ≡ old)
+IsJudged p vectors k None None old v new = ⊥
+IsJudged p vectors k None (Some part) old v new = IsJudgedOver p vectors k part old v new
 
 -- at most two vectors with rows of the model, of which the first one is as the promise on multipliers asks
 pub record AreBounding (p : Problem) (rows : ℕ) (live : List ℕ) (boxes : List Box) (vectors : List Multipliers) : Type 0 where

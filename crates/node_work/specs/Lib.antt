@@ -1,4 +1,5 @@
 pub mod Probes
 pub mod Stayers
+pub mod Refusals
 pub mod Choices
 pub mod Branches

@@ -1,10 +1,9 @@
 // The vectors of a node: one or two for all of its scenarios.
 ghost use Rattle.std.specs.Prelude.{◌≡◌, ◌<◌, ◌++◌, ◌∷◌, [], Some, None, length, All, IfOk, IfSome};
-ghost use Rattle.std.specs.Arc.{arc_value};
-ghost use Rattle.tighten.specs.Steps.{IsStep};
 ghost use Rattle.scenario_changes.specs.Problems.{problem as posed};
 ghost use Rattle.dual_bounds.specs.Vectors.{RowsBelow};
 ghost use Rattle.certs.specs.Verdicts.{AllRowsBelow};
+ghost use Rattle.node_work.specs.Refusals.{HaveParts};
 ghost use Rattle.node_work.specs.Choices.{AreBounding};
 
 use crate::climbs::{Climb, climb_next};
@@ -13,7 +12,7 @@ use crate::remaining::Remaining;
 use crate::standings::Standings;
 use crate::starts::hinted;
 use bb_core::Work;
-use certs::{Cert, Vectors};
+use certs::Vectors;
 use dual_bounds::Vector;
 use scenario_changes::Problem;
 use std::alloc::{AllocError, Global};
@@ -31,16 +30,15 @@ fn first_candidate(
     alloc: Global,
     problem: &Problem,
     work: &Work,
-    cert: &Cert,
+    remaining: &Remaining,
     standings: &mut Standings,
 ) -> Result<(Vector, Option<Climb>), AllocError>
-    requires columns { length (arc_value work.now.bounds) ≡ length problem.now.model.columns }
-    requires steps { All (IsStep problem.now.model) cert.now.steps }
+    requires parts { HaveParts (posed problem.now) remaining.now.scenarios remaining.now.boxes.items }
     ensures scale { IfOk result (λ r. r.0.scale ≡ 4096) }
     ensures rows { IfOk result (λ r. RowsBelow (length problem.now.model.rows) r.0.entries) }
 {
     let none = Vectors::new(alloc);
-    match climb_next(alloc, problem, work, cert, standings, &none, None)? {
+    match climb_next(alloc, problem, work, remaining, standings, &none, None)? {
         Some((vector, climb)) => Ok((vector, Some(climb))),
         None => {
             let vector = hinted(alloc, problem, work)?;
@@ -85,14 +83,12 @@ fn second_vector(
     alloc: Global,
     problem: &Problem,
     work: &Work,
-    cert: &Cert,
     remaining: &Remaining,
     standings: &mut Standings,
     made: &Vectors,
     first: &Climb,
 ) -> Result<(Option<Vector>, Option<Climb>), AllocError>
-    requires bounds { length (arc_value work.now.bounds) ≡ length problem.now.model.columns }
-    requires steps { All (IsStep problem.now.model) cert.now.steps }
+    requires parts { HaveParts (posed problem.now) remaining.now.scenarios remaining.now.boxes.items }
     requires columns { All (λ b. length b ≡ length problem.now.model.columns) remaining.now.boxes.items }
     requires made { AllRowsBelow (length problem.now.model.rows) made.now }
     ensures { IfOk result (λ r. IfSome r.0 (λ v. RowsBelow (length problem.now.model.rows) v.entries)) }
@@ -100,7 +96,15 @@ fn second_vector(
     if let Some(ray) = ray_of(alloc, problem, remaining, standings, made)? {
         return Ok((Some(ray), None));
     }
-    match climb_next(alloc, problem, work, cert, standings, made, Some(first))? {
+    match climb_next(
+        alloc,
+        problem,
+        work,
+        remaining,
+        standings,
+        made,
+        Some(first),
+    )? {
         Some((vector, climb)) => {
             standings.raise_by(problem, remaining, &vector);
             Ok((Some(vector), Some(climb)))
@@ -114,22 +118,18 @@ fn more_of(
     alloc: Global,
     problem: &Problem,
     work: &Work,
-    cert: &Cert,
     remaining: &Remaining,
     standings: &mut Standings,
     made: &Vectors,
     first: &Option<Climb>,
 ) -> Result<(Option<Vector>, Option<Climb>), AllocError>
-    requires bounds { length (arc_value work.now.bounds) ≡ length problem.now.model.columns }
-    requires steps { All (IsStep problem.now.model) cert.now.steps }
+    requires parts { HaveParts (posed problem.now) remaining.now.scenarios remaining.now.boxes.items }
     requires columns { All (λ b. length b ≡ length problem.now.model.columns) remaining.now.boxes.items }
     requires made { AllRowsBelow (length problem.now.model.rows) made.now }
     ensures { IfOk result (λ r. IfSome r.0 (λ v. RowsBelow (length problem.now.model.rows) v.entries)) }
 {
     match first {
-        Some(first) => second_vector(
-            alloc, problem, work, cert, remaining, standings, made, first,
-        ),
+        Some(first) => second_vector(alloc, problem, work, remaining, standings, made, first),
         None => Ok((None, None)),
     }
 }
@@ -153,25 +153,21 @@ pub(crate) fn bound_all(
     alloc: Global,
     problem: &Problem,
     work: &Work,
-    cert: &Cert,
     remaining: &Remaining,
     standings: &mut Standings,
 ) -> Result<Bounding, AllocError>
-    requires bounds { length (arc_value work.now.bounds) ≡ length problem.now.model.columns }
-    requires steps { All (IsStep problem.now.model) cert.now.steps }
+    requires parts { HaveParts (posed problem.now) remaining.now.scenarios remaining.now.boxes.items }
     requires count { length remaining.now.boxes.items ≡ length remaining.now.scenarios }
     requires scenarios { All (λ s. s < length (posed problem.now).scenarios) remaining.now.scenarios }
     requires columns { All (λ b. length b ≡ length problem.now.model.columns) remaining.now.boxes.items }
     ensures { IfOk result (λ b. AreBounding (posed problem.now) (length problem.now.model.rows) remaining.now.scenarios remaining.now.boxes.items b.vectors) }
 {
-    let (candidate, first) = first_candidate(alloc, problem, work, cert, standings)?;
+    let (candidate, first) = first_candidate(alloc, problem, work, remaining, standings)?;
     let vector = first_vector(alloc, problem, remaining, candidate)?;
     standings.raise_by(problem, remaining, &vector);
     let mut vectors = Vectors::new(alloc);
     vectors.push(vector);
-    let (more, second) = more_of(
-        alloc, problem, work, cert, remaining, standings, &vectors, &first,
-    )?;
+    let (more, second) = more_of(alloc, problem, work, remaining, standings, &vectors, &first)?;
     let vectors = with_more(vectors, more);
     Ok(Bounding {
         vectors,

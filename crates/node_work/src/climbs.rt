@@ -1,17 +1,16 @@
 // Climbs: vectors of multipliers made for single scenarios of a node.
-ghost use Rattle.std.specs.Prelude.{◌≡◌, ◌<◌, false, length, All, IfOk, IfSome};
-ghost use Rattle.std.specs.Arc.{arc_value};
+ghost use Rattle.std.specs.Prelude.{◌≡◌, ◌<◌, false, length, IfOk, IfSome};
 ghost use Rattle.int_model.specs.Boxes.{is_empty};
-ghost use Rattle.tighten.specs.Steps.{IsStep};
 ghost use Rattle.scenario_changes.specs.Problems.{problem as posed};
 ghost use Rattle.dual_bounds.specs.Vectors.{RowsBelow};
-ghost use Rattle.certs.specs.Verdicts.{AllRowsBelow};
+ghost use Rattle.node_work.specs.Refusals.{HaveParts};
 
 use crate::multipliers::without_entries;
+use crate::remaining::Remaining;
 use crate::standings::{Aim, Standings};
 use crate::starts::better_start;
 use bb_core::Work;
-use certs::{Cert, Vectors, is_stayer};
+use certs::Vectors;
 use dual_bounds::Vector;
 use dual_climb::climb;
 use int_model::{NearPoint, PointBox};
@@ -25,11 +24,10 @@ const PASSES: u32 = 160;
 
 const LATER_PASSES: u32 = 40;
 
-/// Where a climb for a scenario ended: the replay that it was made in, and the near point.
+/// Where a climb for a scenario ended.
 #[derive(Drop)]
 pub(crate) struct Climb {
     pub(crate) scenario: u32,
-    pub(crate) part: PointBox,
     pub(crate) near: NearPoint,
 }
 
@@ -100,13 +98,12 @@ pub(crate) fn climb_next(
     alloc: Global,
     problem: &Problem,
     work: &Work,
-    cert: &Cert,
+    remaining: &Remaining,
     standings: &mut Standings,
     made: &Vectors,
     before: Option<&Climb>,
 ) -> Result<Option<(Vector, Climb)>, AllocError>
-    requires columns { length (arc_value work.now.bounds) ≡ length problem.now.model.columns }
-    requires steps { All (IsStep problem.now.model) cert.now.steps }
+    requires parts { HaveParts (posed problem.now) remaining.now.scenarios remaining.now.boxes.items }
     ensures scale { IfOk result (λ o. IfSome o (λ r. r.0.scale ≡ 4096)) }
     ensures rows { IfOk result (λ o. IfSome o (λ r. RowsBelow (length problem.now.model.rows) r.0.entries)) }
 {
@@ -114,16 +111,10 @@ pub(crate) fn climb_next(
         return Ok(None);
     };
     standings.serve(s);
-    let mut part = work.bounds.copy(alloc)?;
-    if !is_stayer(problem, s, &work.bounds, cert, &mut part) {
+    let Some(part) = remaining.part(s) else {
         return Ok(None);
-    }
-    let cut = standings.cut(s);
-    let (vector, near) = climb_in(alloc, problem, work, s, &part, made, before, cut)?;
-    let end = Climb {
-        scenario: s,
-        part,
-        near,
     };
-    Ok(Some((vector, end)))
+    let cut = standings.cut(s);
+    let (vector, near) = climb_in(alloc, problem, work, s, part, made, before, cut)?;
+    Ok(Some((vector, Climb { scenario: s, near })))
 }

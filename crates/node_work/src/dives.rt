@@ -1,18 +1,17 @@
 // Dives: feasible points of the scenarios of a node.
-ghost use Rattle.std.specs.Prelude.{◌≡◌, ◌<◌, false, length, All, IfOk, OnOk};
-ghost use Rattle.std.specs.Arc.{arc_value};
+ghost use Rattle.std.specs.Prelude.{◌≡◌, ◌<◌, true, false, length, All, IfOk, OnOk};
 ghost use Rattle.int_model.specs.Boxes.{is_empty};
-ghost use Rattle.tighten.specs.Steps.{IsStep};
+ghost use Rattle.int_model.specs.Programs.{Feasible};
 ghost use Rattle.scenario_changes.specs.Problems.{problem as posed, program_at};
-ghost use Rattle.certs.specs.Verdicts.{AllRowsBelow};
 ghost use Rattle.dive.specs.Dives.{LiesIn};
 ghost use Rattle.node_work.specs.Probes.{AreFound};
+ghost use Rattle.node_work.specs.Refusals.{HaveParts};
 ghost use Rattle.node_work.specs.Choices.{IsKept};
 
 use crate::climbs::Climb;
+use crate::remaining::Remaining;
 use crate::standings::Standings;
 use bb_core::Work;
-use certs::{Cert, is_stayer};
 use dive::{Dive, dive, dive_near};
 use int_model::{NearPoint, Point, PointBox};
 use live_sets::LiveSet;
@@ -42,11 +41,20 @@ fn keep_copy(
     Ok(())
 }
 
-// Adds the point for each live scenario in which it is feasible.
+// Whether a point is of use to a scenario: its value is below the one to undercut, and it is feasible.
+fn is_useful(problem: &Problem, standings: &Standings, s: u32, x: &[i32]) -> bool
+    requires { s < length (posed problem.now).scenarios }
+    ensures { result ≡ true → Feasible (program_at (posed problem.now) s) x.now }
+{
+    standings.is_undercut(problem, s, x) && problem.meets(s, x)
+}
+
+// Adds the point for each live scenario to which it is of use.
 fn add_for_all(
     alloc: Global,
     problem: &Problem,
     live: LiveSet,
+    standings: &Standings,
     x: &[i32],
     found: &mut Vec<(u32, Point)>,
 ) -> Result<(), AllocError>
@@ -55,13 +63,13 @@ fn add_for_all(
     ensures { OnOk result (AreFound (posed problem.now) found.new.items) }
 {
     for s in live.iter() {
-        let is_point = problem.meets(s, x);
+        let is_point = is_useful(problem, standings, s, x);
         keep_copy(alloc, found, s, x, is_point)?;
     }
     Ok(())
 }
 
-// The point that a dive near a point finds in a scenario's replay; at the root also one by costs, if the
+// The point that a dive near a point finds in a scenario's box; at the root also one by costs, if the
 // first one is stuck.
 fn dive_in(
     alloc: Global,
@@ -93,6 +101,7 @@ fn add_if_found(
     alloc: Global,
     problem: &Problem,
     live: LiveSet,
+    standings: &Standings,
     point: Option<Point>,
     found: &mut Vec<(u32, Point)>,
 ) -> Result<(), AllocError>
@@ -103,7 +112,7 @@ fn add_if_found(
     let Some(point) = point else {
         return Ok(());
     };
-    add_for_all(alloc, problem, live, point.as_slice(), found)?;
+    add_for_all(alloc, problem, live, standings, point.as_slice(), found)?;
     Ok(())
 }
 
@@ -113,31 +122,29 @@ fn is_wanted(work: &Work, standings: &Standings, first: &Climb, s: u32) -> bool 
     (is_root || s == first.scenario) && standings.is_open(s)
 }
 
-// Dives into the replay of a scenario. What is found is tried on each live scenario.
+// Dives into the box of a scenario that remains. What is found is tried on each live scenario.
 fn dive_for(
     alloc: Global,
     problem: &Problem,
     work: &Work,
-    cert: &Cert,
+    remaining: &Remaining,
+    standings: &Standings,
     s: u32,
     near: &NearPoint,
     found: &mut Vec<(u32, Point)>,
 ) -> Result<(), AllocError>
     requires live { All (λ s. s < length (posed problem.now).scenarios) work.now.live }
-    requires columns { length (arc_value work.now.bounds) ≡ length problem.now.model.columns }
-    requires steps { All (IsStep problem.now.model) cert.now.steps }
+    requires parts { HaveParts (posed problem.now) remaining.now.scenarios remaining.now.boxes.items }
     requires scenario { s < length (posed problem.now).scenarios }
     requires found { AreFound (posed problem.now) found.old.items }
     ensures { OnOk result (AreFound (posed problem.now) found.new.items) }
 {
-    let _limits = problem.costs(s);
-    let mut part = work.bounds.copy(alloc)?;
-    if !is_stayer(problem, s, &work.bounds, cert, &mut part) {
+    let Some(part) = remaining.part(s) else {
         return Ok(());
-    }
+    };
     let is_root = work.hint.is_none();
-    let point = dive_in(alloc, problem, s, &part, near, is_root)?;
-    add_if_found(alloc, problem, work.live, point, found)?;
+    let point = dive_in(alloc, problem, s, part, near, is_root)?;
+    add_if_found(alloc, problem, work.live, standings, point, found)?;
     Ok(())
 }
 
@@ -146,15 +153,14 @@ fn dive_if_wanted(
     alloc: Global,
     problem: &Problem,
     work: &Work,
-    cert: &Cert,
+    remaining: &Remaining,
     standings: &Standings,
     first: &Climb,
     s: u32,
     found: &mut Vec<(u32, Point)>,
 ) -> Result<(), AllocError>
     requires live { All (λ s. s < length (posed problem.now).scenarios) work.now.live }
-    requires columns { length (arc_value work.now.bounds) ≡ length problem.now.model.columns }
-    requires steps { All (IsStep problem.now.model) cert.now.steps }
+    requires parts { HaveParts (posed problem.now) remaining.now.scenarios remaining.now.boxes.items }
     requires scenario { s < length (posed problem.now).scenarios }
     requires found { AreFound (posed problem.now) found.old.items }
     ensures { OnOk result (AreFound (posed problem.now) found.new.items) }
@@ -162,7 +168,16 @@ fn dive_if_wanted(
     if !is_wanted(work, standings, first, s) {
         return Ok(());
     }
-    dive_for(alloc, problem, work, cert, s, &first.near, found)?;
+    dive_for(
+        alloc,
+        problem,
+        work,
+        remaining,
+        standings,
+        s,
+        &first.near,
+        found,
+    )?;
     Ok(())
 }
 
@@ -171,13 +186,12 @@ pub(crate) fn dive_open(
     alloc: Global,
     problem: &Problem,
     work: &Work,
-    cert: &Cert,
+    remaining: &Remaining,
     standings: &Standings,
     first: &Option<Climb>,
 ) -> Result<Vec<(u32, Point)>, AllocError>
     requires live { All (λ s. s < length (posed problem.now).scenarios) work.now.live }
-    requires columns { length (arc_value work.now.bounds) ≡ length problem.now.model.columns }
-    requires steps { All (IsStep problem.now.model) cert.now.steps }
+    requires parts { HaveParts (posed problem.now) remaining.now.scenarios remaining.now.boxes.items }
     ensures { IfOk result (λ found. AreFound (posed problem.now) found.items) }
 {
     let mut found = Vec::new(alloc);
@@ -185,7 +199,9 @@ pub(crate) fn dive_open(
         return Ok(found);
     };
     for s in 0..problem.count() {
-        dive_if_wanted(alloc, problem, work, cert, standings, first, s, &mut found)?;
+        dive_if_wanted(
+            alloc, problem, work, remaining, standings, first, s, &mut found,
+        )?;
     }
     Ok(found)
 }

@@ -29,11 +29,7 @@ pub(crate) fn hint_of(
     let Some(climb) = first else {
         return Ok(None);
     };
-    let Climb {
-        scenario: _,
-        part: _,
-        near,
-    } = climb;
+    let Climb { scenario: _, near } = climb;
     let vectors = starts_of(alloc, vectors)?;
     match Arc::new(alloc, Hint { vectors, near }) {
         Ok(hint) => Ok(Some(hint)),

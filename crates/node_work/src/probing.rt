@@ -39,8 +39,15 @@ pub fn probe(alloc: Global, problem: &Problem, work: &Work) -> Result<Probe, All
     };
     let remaining = Remaining::new(alloc, problem, work.live, &work.bounds, &cert)?;
     let mut standings = Standings::new(alloc, problem, work, &remaining)?;
-    let bounding = bound_all(alloc, problem, work, &cert, &remaining, &mut standings)?;
-    let found = dive_open(alloc, problem, work, &cert, &standings, &bounding.first)?;
+    let bounding = bound_all(alloc, problem, work, &remaining, &mut standings)?;
+    let found = dive_open(
+        alloc,
+        problem,
+        work,
+        &remaining,
+        &standings,
+        &bounding.first,
+    )?;
     standings.lower_by(problem, &found);
     let split = split_of(alloc, problem, &remaining, &standings, &bounding)?;
     let Bounding {
@@ -50,7 +57,7 @@ pub fn probe(alloc: Global, problem: &Problem, work: &Work) -> Result<Probe, All
     } = bounding;
     let hint = hint_of(alloc, &vectors, first)?;
     cert.vectors = vectors;
-    let judgement = judge_live(alloc, problem, work.live, &work.bounds, &cert, found)?;
+    let judgement = judge_live(alloc, problem, work, &cert, &remaining, found)?;
     Ok(Probe {
         cert,
         verdicts: judgement.verdicts,

@@ -9,7 +9,7 @@ use crate::standings::Standings;
 use crate::wide::split_wide;
 use branching::Branch;
 use dual_bounds::Vector;
-use int_model::Model;
+use int_model::{Model, NearPoint, PointBox};
 use scenario_changes::Problem;
 use std::alloc::{AllocError, Global};
 
@@ -70,18 +70,19 @@ fn fraction(near: i64, low: i32, high: i32) -> Option<(i32, u128)> {
 fn split_near(
     alloc: Global,
     problem: &Problem,
-    climb: &Climb,
+    part: &PointBox,
+    near: &NearPoint,
     vector: &Vector,
 ) -> Result<Option<Branch>, AllocError> {
     let model = problem.model();
     let multipliers = multipliers(alloc, model.rows(), vector)?;
-    let lows = climb.part.lows();
-    let highs = climb.part.highs();
+    let lows = part.lows();
+    let highs = part.highs();
     let mut best = None;
     let mut greatest: u128 = 0;
     for column in 0..model.columns() {
         let j = column as usize;
-        let Some(number) = climb.near.get(j) else {
+        let Some(number) = near.get(j) else {
             break;
         };
         if j >= lows.len() || j >= highs.len() {
@@ -104,6 +105,7 @@ fn split_near(
 fn split_by(
     alloc: Global,
     problem: &Problem,
+    remaining: &Remaining,
     standings: &Standings,
     climb: &Option<Climb>,
     vector: Option<&Vector>,
@@ -117,7 +119,10 @@ fn split_by(
     if !standings.is_open(climb.scenario) {
         return Ok(None);
     }
-    split_near(alloc, problem, climb, vector)
+    match remaining.part(climb.scenario) {
+        Some(part) => split_near(alloc, problem, part, &climb.near, vector),
+        None => Ok(None),
+    }
 }
 
 /// Where to split: near the end of the first or else of the second climb, or else so that one part is dear
@@ -130,11 +135,18 @@ pub(crate) fn split_of(
     bounding: &Bounding,
 ) -> Result<Option<Branch>, AllocError> {
     let first = bounding.vectors.get(0);
-    if let Some(branch) = split_by(alloc, problem, standings, &bounding.first, first)? {
+    if let Some(branch) = split_by(alloc, problem, remaining, standings, &bounding.first, first)? {
         return Ok(Some(branch));
     }
     let second = bounding.vectors.get(1);
-    if let Some(branch) = split_by(alloc, problem, standings, &bounding.second, second)? {
+    if let Some(branch) = split_by(
+        alloc,
+        problem,
+        remaining,
+        standings,
+        &bounding.second,
+        second,
+    )? {
         return Ok(Some(branch));
     }
     if let Some(vector) = first {

@@ -134,6 +134,16 @@ impl Standings {
         }
     }
 
+    /// Whether a point has a value below the one to undercut.
+    pub(crate) fn is_undercut(&self, problem: &Problem, s: u32, x: &[i32]) -> bool
+        requires { s < length (posed problem.now).scenarios }
+    {
+        match self.cut(s) {
+            Some(cut) => value_of(problem, s, x) < cut,
+            None => true,
+        }
+    }
+
     /// The open scenario that comes first of those that no vector was made for.
     pub(crate) fn first(&self, problem: &Problem, aim: Aim) -> Option<u32>
         ensures { IfSome result (λ s. s < length (posed problem.now).scenarios) }

@@ -1,17 +1,14 @@
 // The stayers of a split, and the hull of their replays.
-ghost use Rattle.std.specs.Prelude.{◌≡◌, ◌≢◌, ◌<◌, ◌↔◌, ◌≤◌, ℕ, [], true, false, length, Some, None, IfSome, IsTrue, Contains, nat_eq, All, slice_get};
-ghost use Rattle.std.specs.List.{list_any};
+ghost use Rattle.std.specs.Prelude.{◌≡◌, ◌≢◌, ◌<◌, ◌↔◌, ◌≤◌, ℕ, [], false, length, Some, IsTrue, Contains, All};
 ghost use Rattle.int_model.specs.Boxes.{is_empty, is_single};
-ghost use Rattle.int_model.specs.RowSums.{row_misses};
 ghost use Rattle.tighten.specs.Steps.{IsStep};
 ghost use Rattle.scenario_changes.specs.Problems.{program_at};
 ghost use Rattle.scenario_changes.specs.Problems as problems;
-ghost use Rattle.certs.specs.Trees.{stayers_hull, stayer_box, some_row_misses, is_rising};
-ghost use Rattle.certs.specs.Verdicts.{AllRowsBelow};
-ghost use Rattle.node_work.specs.Stayers.{AreOpen, undercuts};
+ghost use Rattle.certs.specs.Trees.{stayers_hull, stayer_box};
+ghost use Rattle.node_work.specs.Stayers.{AreOpen, IsOpen, undercuts};
 ghost use Rattle.node_work.specs.Stayers as spec;
 
-use certs::{Cert, Level, is_stayer};
+use certs::{Cert, Level, replay_at};
 use int_model::PointBox;
 use live_sets::LiveSet;
 use scenario_changes::Problem;
@@ -41,6 +38,21 @@ pub(crate) fn stayers(raised: &[Option<Level>], cuts: &[Option<i64>]) -> LiveSet
     stay
 }
 
+// Puts the replay of an open scenario into the box. No row misses it, so that the rows needn't be tried.
+fn replay_open(problem: &Problem, s: u32, bounds: &PointBox, cert: &Cert, part: &mut PointBox)
+    requires columns { length bounds.now ≡ length problem.now.model.columns }
+    requires steps { All (IsStep problem.now.model) cert.now.steps }
+    requires open { IsOpen (problems.problem problem.now) bounds.now cert.now s }
+    requires part { length part.old ≡ length problem.now.model.columns }
+    ensures here { stayer_box (problems.problem problem.now) bounds.now cert.now (program_at (problems.problem problem.now) s) ≡ Some part.new }
+    ensures occupied { is_empty part.new ≡ false }
+    ensures several { is_single part.new ≡ false }
+    ensures count { length part.new ≡ length problem.now.model.columns }
+{
+    let _limits = problem.costs(s);
+    replay_at(problem, s, bounds, cert, part);
+}
+
 /// Puts the hull of the replays of the stayers, of which there are some, into the box.
 pub(crate) fn hull_stayers(
     problem: &Problem,
@@ -64,10 +76,10 @@ pub(crate) fn hull_stayers(
     let mut is_begun = false;
     for s in stay.iter() {
         if is_begun {
-            is_stayer(problem, s, bounds, cert, replay);
+            replay_open(problem, s, bounds, cert, replay);
             hull.hull(replay);
         } else {
-            is_stayer(problem, s, bounds, cert, hull);
+            replay_open(problem, s, bounds, cert, hull);
             is_begun = true;
         }
     }

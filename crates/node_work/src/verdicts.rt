@@ -1,30 +1,22 @@
 // The verdicts of a probe.
-ghost use Rattle.std.specs.Prelude.{◌≡◌, ◌<◌, ℕ, Some, None, true, false, length, slice_get, All, IfSome, IfOk, OnOk, IsTrue};
-ghost use Rattle.int_model.specs.Boxes.{Box, is_single};
-ghost use Rattle.int_model.specs.Programs.{Feasible, value};
-ghost use Rattle.tighten.specs.Steps.{IsStep};
-ghost use Rattle.tighten.specs.Replay.{replay};
+ghost use Rattle.std.specs.Prelude.{◌≡◌, ◌<◌, Some, None, length, slice_get, All, IsSome, IfOk, OnOk};
+ghost use Rattle.std.specs.Arc.{arc_value};
 ghost use Rattle.dual_bounds.specs.Shared.{AreShares};
-ghost use Rattle.dual_bounds.specs.Vectors.{Multipliers, RowsBelow, program_bound};
+ghost use Rattle.dual_bounds.specs.Vectors.{RowsBelow};
 ghost use Rattle.scenario_changes.specs.Problems.{program_at, problem as posed};
-ghost use Rattle.certs.specs.Levels.{level_le};
-ghost use Rattle.certs.specs.Trees.{stayer_box};
 ghost use Rattle.certs.specs.Shared.{HaveShares};
 ghost use Rattle.certs.specs.Verdicts.{AllRowsBelow};
-ghost use Rattle.certs.specs.Verdicts as levels;
-ghost use Rattle.certs.specs.declared.level.Level.TheVariants.{Value};
-ghost use Rattle.certs.specs.declared.verdict.Verdict.TheVariants.{Bound as BoundOf};
-ghost use Rattle.node_work.specs.Probes.{EachLive, Found, AreFound, IsGoodVerdict, IsBestVerdict, HasAscent, lows_of};
-ghost use Rattle.node_work.specs.Choices.{IsChosen, IsStrongest, IsConcluded, HasFirst, IsStronger};
+ghost use Rattle.node_work.specs.Probes.{EachLive, AreFound, IsGoodVerdict, IsBestVerdict, lows_of, scenarios_of, boxes_of};
+ghost use Rattle.node_work.specs.Probes as probes;
+ghost use Rattle.node_work.specs.Refusals.{EachRefusal, HaveParts, part_of};
+ghost use Rattle.node_work.specs.Choices.{IsJudged, IsStrongest, HasFirst, IsStronger};
 ghost use Rattle.node_work.specs.Choices as spec;
 
-use certs::{
-    Cert, Level, VectorShares, Vectors, Verdict, Verdicts, bound_level, farkas_level, missed_row,
-    replay_at,
-};
+use crate::remaining::Remaining;
+use bb_core::Work;
+use certs::{Cert, Level, VectorShares, Vectors, Verdict, Verdicts, bound_level, farkas_level};
 use dual_bounds::{Shares, Vector};
 use int_model::{Point, PointBox};
-use live_sets::LiveSet;
 use scenario_changes::Problem;
 use std::alloc::{AllocError, Global};
 
@@ -142,39 +134,6 @@ fn strongest(
     stronger(best, single_point(problem, s, part))
 }
 
-// The verdict of a scenario, and whether the box then is its replay, which is a feasible point.
-fn conclude(
-    problem: &Problem,
-    s: u32,
-    bounds: &PointBox,
-    cert: &Cert,
-    shares: &VectorShares,
-    part: &mut PointBox,
-) -> (Choice, bool)
-    requires shares { HaveShares problem.now.model cert.now.vectors shares.now }
-    requires scenario { s < length (posed problem.now).scenarios }
-    requires columns { length bounds.now ≡ length problem.now.model.columns }
-    requires steps { All (IsStep problem.now.model) cert.now.steps }
-    requires vectors { AllRowsBelow (length problem.now.model.rows) cert.now.vectors }
-    requires first { HasFirst cert.now.vectors }
-    requires part { length part.old ≡ length problem.now.model.columns }
-    ensures conclusion { IsConcluded (posed problem.now) bounds.now cert.now s result.0 result.1 part.new }
-    ensures count { length part.new ≡ length problem.now.model.columns }
-{
-    let _limits = problem.costs(s);
-    let level = Level::Inf;
-    if !replay_at(problem, s, bounds, cert, part) {
-        let verdict = Verdict::Empty;
-        return (Choice { verdict, level }, false);
-    }
-    if let Some(row) = missed_row(problem, s, part) {
-        let verdict = Verdict::Misses(row);
-        return (Choice { verdict, level }, false);
-    }
-    let choice = strongest(problem, s, part, &cert.vectors, shares);
-    (choice, part.is_single())
-}
-
 // Keeps the point of the low ends, if it is one that is found.
 fn keep_point(
     alloc: Global,
@@ -192,6 +151,37 @@ fn keep_point(
     Ok(())
 }
 
+// The verdict of a live scenario: its refusal, or else the strongest one over its box, whose point is kept
+// if it is the only one.
+fn judge_one(
+    alloc: Global,
+    problem: &Problem,
+    s: u32,
+    refusal: Option<Verdict>,
+    remaining: &Remaining,
+    vectors: &Vectors,
+    shares: &VectorShares,
+    found: &mut Vec<(u32, Point)>,
+) -> Result<Verdict, AllocError>
+    requires shares { HaveShares problem.now.model vectors.now shares.now }
+    requires scenario { s < length (posed problem.now).scenarios }
+    requires rows { AllRowsBelow (length problem.now.model.rows) vectors.now }
+    requires first { HasFirst vectors.now }
+    requires parts { HaveParts (posed problem.now) remaining.now.scenarios remaining.now.boxes.items }
+    requires remains { refusal ≡ None → IsSome (part_of remaining.now.scenarios remaining.now.boxes.items s) }
+    ensures { IfOk result (λ v. IsJudged (program_at (posed problem.now) s) vectors.now s refusal (part_of remaining.now.scenarios remaining.now.boxes.items s) found.old.items v found.new.items) }
+{
+    if let Some(verdict) = refusal {
+        return Ok(verdict);
+    }
+    let Some(part) = remaining.part(s) else {
+        unreachable!()
+    };
+    let choice = strongest(problem, s, part, vectors, shares);
+    keep_point(alloc, found, s, part, part.is_single())?;
+    Ok(choice.verdict)
+}
+
 /// Verdicts of the live scenarios, and feasible points.
 #[derive(Drop)]
 pub(crate) struct Judgement {
@@ -204,29 +194,40 @@ pub(crate) struct Judgement {
 pub(crate) fn judge_live(
     alloc: Global,
     problem: &Problem,
-    live: LiveSet,
-    bounds: &PointBox,
+    work: &Work,
     cert: &Cert,
+    remaining: &Remaining,
     found: Vec<(u32, Point)>,
 ) -> Result<Judgement, AllocError>
-    requires live { All (λ s. s < length (posed problem.now).scenarios) live }
-    requires columns { length bounds.now ≡ length problem.now.model.columns }
-    requires steps { All (IsStep problem.now.model) cert.now.steps }
+    requires live { All (λ s. s < length (posed problem.now).scenarios) work.now.live }
     requires vectors { AllRowsBelow (length problem.now.model.rows) cert.now.vectors }
     requires first { HasFirst cert.now.vectors }
+    requires scenarios { remaining.now.scenarios ≡ scenarios_of (probes.remaining (posed problem.now) (arc_value work.now.bounds) cert.now work.now.live) }
+    requires boxes { remaining.now.boxes.items ≡ boxes_of (probes.remaining (posed problem.now) (arc_value work.now.bounds) cert.now work.now.live) }
+    requires refusals { EachRefusal (posed problem.now) (arc_value work.now.bounds) cert.now.steps work.now.live remaining.now.refusals.items }
+    requires parts { HaveParts (posed problem.now) remaining.now.scenarios remaining.now.boxes.items }
     requires found { AreFound (posed problem.now) found.items }
-    ensures good { IfOk result (λ j. EachLive (IsGoodVerdict (posed problem.now) bounds.now cert.now j.found.items) live j.verdicts) }
-    ensures best { IfOk result (λ j. EachLive (IsBestVerdict (posed problem.now) bounds.now cert.now) live j.verdicts) }
+    ensures good { IfOk result (λ j. EachLive (IsGoodVerdict (posed problem.now) (arc_value work.now.bounds) cert.now j.found.items) work.now.live j.verdicts) }
+    ensures best { IfOk result (λ j. EachLive (IsBestVerdict (posed problem.now) (arc_value work.now.bounds) cert.now) work.now.live j.verdicts) }
     ensures found { IfOk result (λ j. AreFound (posed problem.now) j.found.items) }
 {
     let mut verdicts = Vec::new(alloc);
     let mut found = found;
-    let mut part = bounds.copy(alloc)?;
     let shares = VectorShares::of(problem.model(), &cert.vectors);
-    for s in live.iter() {
-        let (choice, is_point) = conclude(problem, s, bounds, cert, &shares, &mut part);
-        keep_point(alloc, &mut found, s, &part, is_point)?;
-        verdicts.push(choice.verdict)?;
+    let mut i = 0;
+    for s in work.live.iter() {
+        let verdict = judge_one(
+            alloc,
+            problem,
+            s,
+            remaining.refusals[i],
+            remaining,
+            &cert.vectors,
+            &shares,
+            &mut found,
+        )?;
+        verdicts.push(verdict)?;
+        i += 1;
     }
     Ok(Judgement {
         verdicts: Verdicts::from_vec(verdicts),

@@ -1,13 +1,19 @@
-use Rattle.std.proofs.Common.{◌≤◌, ℕ, List, [], length, sym, subst, All}
+use Rattle.std.proofs.Common.{◌≡◌, ◌≤◌, ℕ, List, [], length, sym, subst, All}
 use Rattle.std.proofs.Common.{arith, ap}
 use Rattle.int_model.specs.Boxes.{Box}
 use Rattle.tighten.specs.Steps.{IsStep}
 use Rattle.tighten.specs.declared.step.Step.{Step}
 use Rattle.scenario_changes.specs.Problems.{problem}
 use Rattle.dual_bounds.specs.Vectors.{Multipliers}
-use Rattle.node_work.specs.Probes.{EachLive, HasAscent, IsAscent, IsGoodVerdict, remaining, scenarios_of}
+use Rattle.node_work.specs.Probes.{HasAscent, IsAscent, remaining, scenarios_of, boxes_of}
 use Rattle.node_work.proofs.FitLaws.{fits-by}
 use Rattle.node_work.proofs.probing.probe.Goals as goal
+
+pub judge_live-requires-clause-scenarios : goal.judge_live-requires-clause-scenarios
+judge_live-requires-clause-scenarios c = subst (λ (b : Box). c.in_ok-remaining.remaining.scenarios ≡ scenarios_of (remaining (problem c.args.problem.now) b (record { steps = c.from_vec.result; vectors = c.in_ok-bounding.bounding.vectors }) c.args.work.now.live)) c.deref-2.ensures c.in_ok-remaining.ensures.scenarios
+
+pub judge_live-requires-clause-boxes : goal.judge_live-requires-clause-boxes
+judge_live-requires-clause-boxes c = subst (λ (b : Box). c.in_ok-remaining.remaining.boxes.items ≡ boxes_of (remaining (problem c.args.problem.now) b (record { steps = c.from_vec.result; vectors = c.in_ok-bounding.bounding.vectors }) c.args.work.now.live)) c.deref-2.ensures c.in_ok-remaining.ensures.boxes
 
 pub returns-clause-good : goal.returns-clause-good
 returns-clause-good c =
@@ -15,7 +21,7 @@ returns-clause-good c =
     let few : length c.from_vec.result ≤ 128 = omega (arith, ap length c.from_vec.ensures, c.in_ok-steps.ensures.few) in
     record {
       fits = fits-by c.args.problem.now (record { steps = c.from_vec.result; vectors = c.in_ok-bounding.bounding.vectors }) steps few c.in_ok-bounding.ensures.rows_below c.in_ok-bounding.ensures.few;
-      are_good = subst (λ (b : Box). EachLive (IsGoodVerdict (problem c.args.problem.now) b (record { steps = c.from_vec.result; vectors = c.in_ok-bounding.bounding.vectors }) c.in_ok-judgement.judgement.found.items) c.args.work.now.live c.in_ok-judgement.judgement.verdicts) c.deref-4.ensures c.in_ok-judgement.ensures.good;
+      are_good = c.in_ok-judgement.ensures.good;
       are_found = c.in_ok-judgement.ensures.found;
     }
 
