@@ -1,5 +1,5 @@
 -- A work has a level for each scenario, and its live scenarios have one.
-use Rattle.std.specs.Prelude.{◌≡◌, ◌↔◌, ℕ, zero, suc, ◌+◌, ◌<◌, ◌≤◌, List, [], ◌∷◌, ◌++◌, length, take, slice_get, slice_index_or, flat_map, ◌⊎◌, Bool, true, false, cond, nat_eq, Option, Some, None, IsTrue, All, Contains, refl, ℤ, map}
+use Rattle.std.specs.Prelude.{◌≡◌, ◌↔◌, ℕ, zero, suc, ◌+◌, ◌<◌, List, [], ◌∷◌, ◌++◌, length, take, slice_get, flat_map, ◌⊎◌, Bool, true, false, cond, nat_eq, Option, Some, None, All, Contains, refl, map}
 use Rattle.std.specs.Cmp.{nat_eq_equiv}
 use Rattle.std.specs.List.{list_any}
 use Rattle.std.proofs.Common.{arith, ap, sym, ◌∙◌, subst, inl, inr, get_or}
@@ -11,10 +11,8 @@ use Rattle.int_model.specs.Boxes.{Box, below_cut, above_cut}
 use Rattle.int_model.specs.Programs.{Program}
 use Rattle.scenario_changes.specs.Problems.{Problem, root_box}
 use Rattle.certs.specs.Verdicts.{start_level}
-use Rattle.certs.specs.Trees.{Place, root_place, raised, kept, stayers_hull, two_places, children, handed_on, handed, arrivals, IsTree}
-use Rattle.certs.specs.declared.cert.Cert.{Cert}
+use Rattle.certs.specs.Trees.{Place, raised, kept, stayers_hull, two_places, handed_on, handed, arrivals, IsTree}
 use Rattle.certs.specs.declared.level.Level.{Level}
-use Rattle.certs.specs.declared.verdict.Verdict.{Verdict}
 use Rattle.certs.specs.declared.tree.Node.{Node as TreeNode}
 use Rattle.certs.specs.declared.tree.Node.TheVariants.{Rest, Leaf, Split}
 use Rattle.std.specs.Arc.{arc_value}

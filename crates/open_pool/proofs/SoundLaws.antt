@@ -1,6 +1,6 @@
 -- The invariant of a pool after a change of one place.
 use Rattle.scenario_changes.specs.Problems as problems
-use Rattle.std.specs.Prelude.{◌≡◌, ℕ, ◌<◌, ◌≤◌, ◌+◌, ◌-◌, ◌*◌, length, slice_set, true, drop, List, ◌++◌, [], ◌∷◌, refl, ℤ, Bool, false, cond, slice_index_or, None, ◌/◌}
+use Rattle.std.specs.Prelude.{◌≡◌, ℕ, ◌<◌, ◌≤◌, ◌+◌, ◌*◌, length, slice_set, true, drop, List, ◌++◌, [], ◌∷◌, refl, ℤ, Bool, false, cond, slice_index_or, None, ◌/◌}
 use Rattle.std.specs.Vec.{with_item, with_items}
 use Rattle.std.proofs.lemmas.List.{take-append-le, take_all, length-set, length-append, append-nil}
 use Rattle.std.proofs.Common.{arith, ap, sym, ◌∙◌, subst, Vec, Global, vec_len, vec_capacity, append_assoc}

@@ -1,8 +1,7 @@
 -- The levels where the searches of all scenarios start.
-use Rattle.std.specs.Prelude.{◌≡◌, ℕ, zero, suc, ◌+◌, ◌<◌, ◌≤◌, List, [], ◌∷◌, ◌++◌, length, map, take, slice_index_or, true, cond, nat_eq, Option, Some, None, refl}
-use Rattle.std.specs.List.{list_any, range_with_len}
+use Rattle.std.specs.Prelude.{◌≡◌, ℕ, List, length, map, Option}
+use Rattle.std.specs.List.{range_with_len}
 use Rattle.std.proofs.Common.{arith, ap, ◌∙◌}
-use Rattle.std.proofs.lemmas.List.{take_all}
 use Rattle.int_model.specs.Boxes.{Box}
 use Rattle.int_model.specs.Programs.{Program}
 use Rattle.scenario_changes.specs.Problems.{Problem, root_box}

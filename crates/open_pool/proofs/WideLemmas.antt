@@ -1,16 +1,14 @@
 -- The boxes of a pool's nodes have the problem's columns.
-use Rattle.std.specs.Prelude.{◌≡◌, ℕ, zero, suc, ◌<◌, pos, ◌+ℤ◌, List, [], ◌∷◌, length, map, slice_get, slice_set, Option, Some, refl}
-use Rattle.std.proofs.Common.{arith, ap, sym, ◌∙◌, subst, inl, inr}
+use Rattle.std.specs.Prelude.{◌≡◌, ℕ, zero, suc, pos, ◌+ℤ◌, List, [], ◌∷◌, length, slice_get, slice_set, Option, Some, refl}
+use Rattle.std.proofs.Common.{ap, sym, ◌∙◌, subst, inl, inr}
 use Rattle.std.proofs.lemmas.List.{length-set}
 use Rattle.int_model.specs.Boxes.{Box, at_most, at_least, interval_at}
-use Rattle.int_model.specs.Programs.{Program}
-use Rattle.scenario_changes.specs.Problems.{Problem, AreWithin, root_box}
+use Rattle.scenario_changes.specs.Problems.{Problem, AreWithin}
 use Rattle.certs.specs.Trees.{Place}
 use Rattle.certs.specs.declared.level.Level.{Level}
 use Rattle.certs.proofs.TreeLaws.{AllWithin}
 use Rattle.certs.proofs.ArrivalLemmas.{root_wide}
 use Rattle.certs.proofs.TreeCounts.{stayers_hull-part, Inside-length}
-use Rattle.certs.proofs.ClaimLaws.{all_within}
 use Rattle.bb_core.specs.Settlements.{Settlement, Outcome, Close, Branch, place_of, recorded}
 use Rattle.bb_core.specs.Coverage.{Slot, Mark, Closed, MaySettle, open_at, new_slots, settled, root_slot}
 use Rattle.bb_core.proofs.ListWrites.{set-get, append-get}

@@ -49,7 +49,7 @@ impl Agenda {
         requires there { node < length slots.now }
         requires before { count ≤ length slots.now }
         requires room { length slots.now ≤ length self.old.firsts.items * 128 }
-        ensures blocks { (k : ℕ) → IsRefreshed slots.now node count (length slots.now) self.old.firsts.items self.new.firsts.items k }
+        ensures refreshed { (k : ℕ) → IsRefreshed slots.now node count (length slots.now) self.old.firsts.items self.new.firsts.items k }
         ensures many { length self.new.firsts.items ≡ length self.old.firsts.items }
     {
         self.refresh(slots, node);

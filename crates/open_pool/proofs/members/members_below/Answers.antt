@@ -1,5 +1,5 @@
 use Rattle.std.proofs.Common.{◌+◌, ◌≡◌, ◌∙◌, sym, subst, arith, List, ℕ, true, false}
-use Rattle.open_pool.proofs.MemberLaws.{MembersSoFar, members-more, members-same, members-none}
+use Rattle.open_pool.proofs.MemberLaws.{MembersSoFar, members-more, members-same}
 use Rattle.open_pool.proofs.members.members_below.Goals as goal
 use Rattle.open_pool.proofs.members.members_below.Goals.{then-contains, else-contains}
 

@@ -47,7 +47,7 @@ invariant_of-self-2 c =
     let many : length c.close_ends.new.ends ≡ length c.self.inside.ends.items = c.close_ends.ensures.len ∙ ap length c.as_mut_slice.ensures.value in
     let ends : (with_items c.self.inside.ends c.close_ends.new.ends).items ≡ c.close_ends.new.ends = with_items_is c.self.inside.ends c.close_ends.new.ends (omega (arith, many)) in
     let count : c.len-count.result ≡ length c.self.inside.slots.items = omega arith in
-    let blocks : (k : ℕ) → IsRefreshed c.enter-settled.new.slots.items c.args.settlement.work.node (length c.self.inside.slots.items) (length c.enter-settled.new.slots.items) c.self.inside.agenda.firsts.items c.refresh_all.new.self.firsts.items k = rw (c.as_slice.ensures.value, count) at c.refresh_all.ensures.blocks in
+    let blocks : (k : ℕ) → IsRefreshed c.enter-settled.new.slots.items c.args.settlement.work.node (length c.self.inside.slots.items) (length c.enter-settled.new.slots.items) c.self.inside.agenda.firsts.items c.refresh_all.new.self.firsts.items k = rw (c.as_slice.ensures.value, count) at c.refresh_all.ensures.refreshed in
     sound-settled c.self.inside c.enter-settled.new.slots c.refresh_all.new.self (with_items c.self.inside.ends c.close_ends.new.ends) c.is_allowed-allowed.new.scratch (settlement_of c.args.settlement) c.self.invariant allowed c.enter-settled.ensures.slots (omega (arith, long, ap length c.enter-settled.ensures.slots)) c.enter-settled.ensures.capacity c.is_allowed-allowed.ensures.scratch (ap length ends ∙ many) (λ k b. ap (λ (xs : List Level). slice_index_or xs k Inf) ends ∙ (rw c.as_mut_slice.ensures.value at c.close_ends.ensures.lower) k b ∙ ap (λ (xs : List (Option Level)). lesser_than (slice_index_or xs k None) (slice_index_or c.self.inside.ends.items k Inf)) same) blocks c.refresh_all.ensures.many
 
 pub returns : goal.returns

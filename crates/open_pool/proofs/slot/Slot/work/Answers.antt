@@ -1,4 +1,4 @@
-use Rattle.std.proofs.Common.{◌≡◌, ◌∙◌, sym, ap, subst, length, All, ◌<◌, List, ℕ, refl}
+use Rattle.std.proofs.Common.{◌≡◌, ◌∙◌, sym, ap, subst, length, List, ℕ, refl}
 use Rattle.std.specs.Arc.{arc_value}
 use Rattle.bb_core.specs.Coverage.{Slot}
 use Rattle.certs.specs.declared.level.Level.{Level}
