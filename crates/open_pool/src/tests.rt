@@ -339,7 +339,7 @@ fn end(ends: &[i32], column: usize) -> i64 {
 fn halves(alloc: Global, work: Work) -> Result<Settlement, Fail> {
     let x = (end(work.bounds.lows(), 0), end(work.bounds.highs(), 0));
     let y = (end(work.bounds.lows(), 1), end(work.bounds.highs(), 1));
-    let middle = bounded((x.0 + x.1) / 2);
+    let middle = bounded(x.0.saturating_add(x.1) / 2);
     let least = Arc::new(alloc, Levels::from_vec(vec![in alloc; Level::Value(y.0)]?))?;
     let mut vectors = Vectors::new(alloc);
     vectors.push(Vector::new(alloc, 1, &[])?);
